@@ -1,0 +1,13 @@
+pub mod Derivations
+pub mod ByForm
+pub mod Examples
+pub mod Lengths
+pub mod Read
+pub mod Back
+pub mod LineBack
+pub mod Sound
+pub mod Terms
+pub mod OnePass
+pub mod Fuel
+pub mod Place
+pub mod Items

@@ -1,0 +1,9 @@
+#!/bin/sh
+# What the gate needs: the Rattle kit and Python 3 (nothing is downloaded).
+missing=
+for tool in rt python3; do
+    command -v "$tool" >/dev/null 2>&1 || missing="$missing $tool"
+done
+[ -z "$missing" ] && exit 0
+echo "toolchain: not found:$missing" >&2
+exit 1
