@@ -1,0 +1,138 @@
+-- What the promise comes to, from any record, table and output: a refused or skipped line changes nothing; two results that it allows are equal; number 3 is given
+-- exactly where there is no derivation; and whoever reads in one pass keeps it.
+-- Assumes nothing.
+use mathlib.Core.Path.{_≡_, refl, ap, _∙_, sym, subst}
+use mathlib.Core.Bool.{Bool, true, false, cond, not, _&&_}
+use mathlib.Core.List.{List, [], _∷_}
+use mathlib.Core.Logic.{⊎-elim}
+use mathlib.Core.Option.{Option, none, some}
+use Prim.Native.Nat.{ℕ, _≤_}
+use native.Mathlib.Omega.{arith}
+use lib.Dec.{T, eqb, eqb→eq, eqb-refl, T-not}
+use lib.ListN.{length}
+use lib.IntN.{ℤ}
+use borrow.Author.Tests.{le-ltb}
+use Rattle.laws.proofs.Bools.{and-left, and-right}
+use Rattle.grammar.specs.Grammar.{Line}
+use Rattle.grammar.specs.Derivation.{strip, Derives}
+use Rattle.grammar.specs.Working.{Took, lineEntries}
+use Rattle.grammar.proofs.Read.{parse}
+use Rattle.grammar.proofs.Terms.{Pass}
+use Rattle.grammar.proofs.Place.{Placed, wrong, found}
+use Rattle.grammar.proofs.Items.{lineP}
+use Rattle.grammar.proofs.Derivations.{found as finds, missed, decided}
+use Rattle.grammar.proofs.ByForm.{by-form-sole, by-pass}
+use Rattle.rules.specs.Meaning.{Entry, arithmetic, reading, words, meets}
+use Rattle.rules.specs.Block.{blockOf}
+use Rattle.rules.specs.Steps.{ready}
+use Rattle.rules.specs.Refusals.{Case, _when_, first, refusals}
+use Rattle.rules.specs.Promise.{After, Right, answer, answerTo, leaving, byNumber, numbers, underived, taken, numberOf, countOf, disorder, slashed}
+use Rattle.rules.specs.declared.Worked.{Worked}
+use Rattle.rules.specs.declared.Block.{Block}
+use Rattle.rules.specs.declared.Record.{Record}
+use Rattle.rules.specs.declared.Answer.the-variants.{Refused, Skipped}
+
+-- nothing is changed: "returns count 0 and leaves record, table and output unchanged"
+pub record Unchanged (r : Record) (table out : List ℤ) (a : After) : Type 0 where
+  pub noCommand : countOf (a .outcome .answer) ≡ 0
+  pub sameRecord : a .outcome .rec ≡ r
+  pub sameTable : a .table ≡ table
+  pub sameOut : a .out ≡ out
+
+-- ---- what is left for a number
+module _ (n : ℕ) (e : Took Entry) (b : Block) (r : Record) (table out : List ℤ) where
+  abbrev by : Bool → Bool → After
+  by zero? skip? = cond zero? (byNumber 0 e b r table out) (cond skip? (leaving Skipped r table out) (leaving (Refused n) r table out))
+
+  -- carries that number
+  pub number-is : numberOf (byNumber n e b r table out .outcome .answer) ≡ n
+  number-is = go (eqb n 0) (eqb n 100) refl refl
+    where
+      go : (x y : Bool) → eqb n 0 ≡ x → eqb n 100 ≡ y → numberOf (by x y .outcome .answer) ≡ n
+      go true y p q = sym (eqb→eq n 0 (subst T (sym p) tt))
+      go false true p q = sym (eqb→eq n 100 (subst T (sym q) tt))
+      go false false p q = refl
+
+  -- and is all as it was, unless the number is 0
+  kept : (numberOf (byNumber n e b r table out .outcome .answer) ≡ 0 → ⊥) → Unchanged r table out (byNumber n e b r table out)
+  kept h = go (eqb n 0) (eqb n 100) h
+    where
+      go : (x y : Bool) → (numberOf (by x y .outcome .answer) ≡ 0 → ⊥) → Unchanged r table out (by x y)
+      go true y h = absurd (h refl)
+      go false true h = record { noCommand = refl; sameRecord = refl; sameTable = refl; sameOut = refl }
+      go false false h = record { noCommand = refl; sameRecord = refl; sameTable = refl; sameOut = refl }
+
+-- ---- a number that no case of a list carries is not its first
+abbrev pub lacks : ℕ → List Case → Bool
+lacks k [] = not (eqb 0 k)
+lacks k ((n when b) ∷ cs) = not (eqb n k) && lacks k cs
+
+pub lacking : (k : ℕ) (cs : List Case) → T (lacks k cs) → first cs ≡ k → ⊥
+lacking k [] t h = T-not (eqb 0 k) t (subst (λ (x : ℕ). T (eqb 0 x)) h tt)
+lacking k ((n when true) ∷ cs) t h = T-not (eqb n k) (and-left (not (eqb n k)) (lacks k cs) t) (subst (λ (x : ℕ). T (eqb n x)) h (eqb-refl n))
+lacking k ((n when false) ∷ cs) t h = lacking k cs (and-right (not (eqb n k)) (lacks k cs) t) h
+
+-- the numbers after 3
+abbrev later : Took Entry → Block → Record → ℕ → List Case
+later e b m room = (4 when meets e 4) ∷ (5 when meets e 5) ∷ (6 when meets e 6) ∷ (7 when meets e 7) ∷ refusals (words e) b m room
+
+-- ---- the model reader and the one pass
+
+-- what one pass has read, where it came to the line's end
+abbrev pub finished : Placed (Took Entry) → Option (Took Entry)
+finished (wrong place) = none
+finished (found e place) = some e
+
+module _ (line : List ℕ) (switch : Bool) (r : Record) (table out : List ℤ) where
+  -- what the promise allows is the answer for what that reader finds, so that it can be computed
+  pub by-model : {a : After} → Right line switch r table out a → a ≡ answer (parse (strip line)) line switch r table out
+  by-model p = ⊎-elim
+      (λ w. p .byTree (w .0) (w .1) ∙ ap (λ (f : Option Line). answer f line switch r table out) (sym (finds (w .1))))
+      (λ h. p .byNone h ∙ ap (λ (f : Option Line). answer f line switch r table out) (sym (missed h)))
+      (decided line)
+
+  kept-to : (e : Option (Took Entry)) → (numberOf (answerTo e line switch r table out .outcome .answer) ≡ 0 → ⊥) → Unchanged r table out (answerTo e line switch r table out)
+  unfolding answerTo
+  kept-to e h =
+      let b = blockOf (words (taken e)) in
+      kept (first (numbers (underived e) (taken e) b line switch r table (length out))) (taken e) b r table out h
+
+  -- a refused or skipped line changes nothing
+  pub unchanged : {a : After} → Right line switch r table out a → (numberOf (a .outcome .answer) ≡ 0 → ⊥) → Unchanged r table out a
+  unchanged {a} p h =
+      let e = by-model p in
+      subst (Unchanged r table out) (sym e) (kept-to (reading table (parse (strip line))) (λ q. h (ap (λ (x : After). numberOf (x .outcome .answer)) e ∙ q)))
+
+  -- two results that the promise allows are equal
+  pub only : {a b : After} → Right line switch r table out a → Right line switch r table out b → a ≡ b
+  only p q = by-form-sole p q
+
+  -- whoever's result is the answer for what one pass over the prepared line reads, however the pass keeps its state, keeps the promise
+  pub by-one-pass : {S : Type 0} (P : Pass (arithmetic table) S) {a : After} → a ≡ answerTo (finished (lineP P (strip line))) line switch r table out → Right line switch r table out a
+  by-one-pass P e =
+      let to : Option (Took Entry) → After = λ o. answerTo o line switch r table out in
+      let p = by-pass P (λ q. to (finished q)) (to none) (λ t. to (some t)) (λ t q. refl) (λ q. refl) {s = line} e in
+      record { byTree = p .byTree; byNone = p .byNone }
+
+  -- where 1, 2 and the skip do not apply
+  module _ (ordered : disorder r table ≡ false) (short : length line ≤ 256) (read : (switch && slashed line) ≡ false) where
+    answer-3 : answerTo none line switch r table out ≡ leaving (Refused 3) r table out
+    unfolding answerTo
+    answer-3 = rw (ordered, le-ltb 256 (length line) short, read)
+
+    -- a line without a derivation is refused with 3
+    pub refused-3 : ((t : Line) → ¬ Derives t line) → {a : After} → Right line switch r table out a → a ≡ leaving (Refused 3) r table out
+    refused-3 h p = p .byNone h ∙ answer-3
+
+    answer-not-3 : (e : Took Entry) → numberOf (answerTo (some e) line switch r table out .outcome .answer) ≡ 3 → ⊥
+    unfolding answerTo
+    answer-not-3 e h =
+        let b = blockOf (words e) in
+        let cs = numbers false e b line switch r table (length out) in
+        let n : first cs ≡ 3 = sym (number-is (first cs) e b r table out) ∙ h in
+        let k : first (later e b (ready b r) (length out)) ≡ 3 = rw (ordered, le-ltb 256 (length line) short, read) at n in
+        lacking 3 (later e b (ready b r) (length out)) tt k
+
+    -- and a line with one is not
+    pub not-3 : (t : Line) → Derives t line → {a : After} → Right line switch r table out a → numberOf (a .outcome .answer) ≡ 3 → ⊥
+    not-3 t d p h = answer-not-3 (lineEntries (arithmetic table) t) (ap (λ (x : After). numberOf (x .outcome .answer)) (sym (p .byTree t d)) ∙ h)

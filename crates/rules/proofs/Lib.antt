@@ -1,0 +1,12 @@
+pub mod Starred
+pub mod Page
+pub mod Cases
+pub mod Rows
+pub mod Demands
+pub mod Told
+pub mod Index
+pub mod Order
+pub mod Roots
+pub mod Nearest
+pub mod Residue
+pub mod Signs

@@ -1,0 +1,216 @@
+-- The promise read one number at a time, as document 01's table of numbers is read. `told`: each number with its condition. `untold`: those sentences say no less
+-- than the promise. `exactly`: a number is given "exactly when no earlier one applies and" its condition holds.
+-- Assumes nothing.
+use mathlib.Core.Path.{_≡_, refl, ap, _∙_, sym, subst}
+use mathlib.Core.Bool.{Bool, true, false, cond, not, _&&_, _||_}
+use mathlib.Core.List.{List, [], _∷_, _++_}
+use mathlib.Core.Logic.{_↔_}
+use mathlib.Core.Option.{Option, none, some}
+use Prim.Native.Nat.{ℕ, _*_}
+use lib.Dec.{T, eqb, ltb, eqb→eq, eqb-refl}
+use lib.ListN.{length}
+use lib.IntN.{ℤ}
+use Rattle.laws.proofs.Bools.{and-left, and-right, T-eq}
+use Rattle.grammar.specs.Grammar.{Line}
+use Rattle.grammar.specs.Derivation.{strip, Derives}
+use Rattle.grammar.specs.Working.{Took, end, lineEntries}
+use Rattle.grammar.proofs.Read.{parse}
+use Rattle.rules.specs.Meaning.{Entry, arithmetic, reading, words, meets}
+use Rattle.rules.specs.Block.{blockOf}
+use Rattle.rules.specs.Steps.{ready}
+use Rattle.rules.specs.Arcs.{arcMove, badArc}
+use Rattle.rules.specs.Commands.{commands}
+use Rattle.rules.specs.Refusals.{Case, _when_, first, unserved, doubled, missing, idle, wrongWord, wrongMode, tooFar}
+use Rattle.rules.specs.Promise.{After, Right, answer, answerTo, leaving, accepted, byNumber, numbers, underived, taken, numberOf, disorder, slashed}
+use Rattle.rules.specs.declared.Block.{Block}
+use Rattle.rules.specs.declared.Record.{Record}
+use Rattle.rules.specs.declared.Answer.the-variants.{Refused, Skipped}
+use Rattle.rules.proofs.Demands.{by-model, number-is, lacks, lacking}
+
+-- ---- one law about an ordered list of numbers with their conditions
+
+-- no condition that stands before number n holds
+abbrev pub noneBefore : ℕ → List Case → Bool
+noneBefore n [] = true
+noneBefore n ((k when c) ∷ cs) = eqb k n || not c && noneBefore n cs
+
+-- the condition of number n; 0 has none
+abbrev pub condition : ℕ → List Case → Bool
+condition n [] = eqb n 0
+condition n ((k when c) ∷ cs) = cond (eqb k n) c (condition n cs)
+
+-- no earlier one applies and its own does: it is given
+pub given : (n : ℕ) (cs : List Case) → T (noneBefore n cs) → T (condition n cs) → first cs ≡ n
+given n [] t u = sym (eqb→eq n 0 u)
+given n ((k when c) ∷ cs) t u = go (eqb k n) c refl t u (λ p q. given n cs p q)
+  where
+    go : (x c : Bool) → eqb k n ≡ x → T (x || not c && noneBefore n cs) → T (cond x c (condition n cs)) → (T (noneBefore n cs) → T (condition n cs) → first cs ≡ n) → first ((k when c) ∷ cs) ≡ n
+    go true true e t u f = eqb→eq k n (subst T (sym e) tt)
+    go true false e t u f = absurd u
+    go false true e t u f = absurd t
+    go false false e t u f = f t u
+
+-- each number stands once
+abbrev pub distinct : List Case → Bool
+distinct [] = true
+distinct ((n when c) ∷ cs) = lacks n cs && distinct cs
+
+-- and it is given only then
+pub given-only : (n : ℕ) (cs : List Case) → T (distinct cs) → first cs ≡ n → T (noneBefore n cs) × T (condition n cs)
+given-only n [] d e = (tt, subst (λ (k : ℕ). T (eqb k 0)) e tt)
+given-only n ((k when true) ∷ cs) d e = rw (T-eq (eqb k n) (subst (λ (x : ℕ). T (eqb k x)) e (eqb-refl k))) (tt, tt)
+given-only n ((k when false) ∷ cs) d e = go (eqb k n) refl (given-only n cs (and-right (lacks k cs) (distinct cs) d) e)
+  where
+    go : (x : Bool) → eqb k n ≡ x → T (noneBefore n cs) × T (condition n cs) → T (x || noneBefore n cs) × T (cond x false (condition n cs))
+    go true p f = absurd (lacking k cs (and-left (lacks k cs) (distinct cs) d) (e ∙ sym (eqb→eq k n (subst T (sym p) tt))))
+    go false p f = f
+
+module _ (line : List ℕ) (switch : Bool) (r : Record) (table out : List ℤ) where
+  -- what a derivation gives: its words and settings, its summary, and the record as the motion step finds it
+  abbrev read : Line → Took Entry
+  read t = lineEntries (arithmetic table) t
+
+  abbrev block : Line → Block
+  block t = blockOf (words (read t))
+
+  abbrev then : Line → Record
+  then t = ready (block t) r
+
+  -- the numbers judged before the form is, and all of them for a derivation or none
+  abbrev pub early : List Case
+  early = (1 when disorder r table) ∷ (2 when ltb 256 (length line)) ∷ (100 when (switch && slashed line)) ∷ []
+
+  abbrev pub cases : Option Line → List Case
+  cases f =
+      let e = reading table f in
+      numbers (underived e) (taken e) (blockOf (words (taken e))) line switch r table (length out)
+
+  abbrev pub refused : ℕ → After
+  refused n = leaving (Refused n) r table out
+
+  pub record Told (a : After) : Type 0 where
+    pub disordered : disorder r table ≡ true → a ≡ refused 1
+    pub tooLong : T (noneBefore 2 early) → ltb 256 (length line) ≡ true → a ≡ refused 2
+    pub skipped : T (noneBefore 100 early) → (switch && slashed line) ≡ true → a ≡ leaving Skipped r table out
+    pub underivable : T (noneBefore 3 early) → ((t : Line) → ¬ Derives t line) → a ≡ refused 3
+    pub tooFine : (t : Line) → Derives t line → T (noneBefore 4 (cases (some t))) → meets (read t) 4 ≡ true → a ≡ refused 4
+    pub outOfRange : (t : Line) → Derives t line → T (noneBefore 5 (cases (some t))) → meets (read t) 5 ≡ true → a ≡ refused 5
+    pub byZero : (t : Line) → Derives t line → T (noneBefore 6 (cases (some t))) → meets (read t) 6 ≡ true → a ≡ refused 6
+    pub noParameter : (t : Line) → Derives t line → T (noneBefore 7 (cases (some t))) → meets (read t) 7 ≡ true → a ≡ refused 7
+    pub notServed : (t : Line) → Derives t line → T (noneBefore 8 (cases (some t))) → unserved (words (read t)) ≡ true → a ≡ refused 8
+    pub givenTwice : (t : Line) → Derives t line → T (noneBefore 9 (cases (some t))) → doubled (words (read t)) (block t) ≡ true → a ≡ refused 9
+    pub missingOrIdle : (t : Line) → Derives t line → T (noneBefore 10 (cases (some t))) → (missing (block t) (then t) || idle (block t) (then t)) ≡ true → a ≡ refused 10
+    pub badWord : (t : Line) → Derives t line → T (noneBefore 11 (cases (some t))) → wrongWord (block t) ≡ true → a ≡ refused 11
+    pub badMode : (t : Line) → Derives t line → T (noneBefore 12 (cases (some t))) → wrongMode (block t) (then t) ≡ true → a ≡ refused 12
+    pub outOfReach : (t : Line) → Derives t line → T (noneBefore 13 (cases (some t))) → tooFar (block t) (then t) ≡ true → a ≡ refused 13
+    pub unequalRadii : (t : Line) → Derives t line → T (noneBefore 14 (cases (some t))) → (arcMove (block t) (then t) && badArc (block t) (then t)) ≡ true → a ≡ refused 14
+    pub noRoom : (t : Line) → Derives t line → T (noneBefore 15 (cases (some t))) → ltb (length out) (8 * length (commands (block t) (then t))) ≡ true → a ≡ refused 15
+    pub works : (t : Line) → Derives t line → T (noneBefore 0 (cases (some t))) → a ≡ accepted (read t) (block t) r table out
+
+  -- ---- told
+  by-given : (f : Option Line) (n : ℕ) → T (noneBefore n (cases f)) → T (condition n (cases f)) →
+      answer f line switch r table out ≡ byNumber n (taken (reading table f)) (blockOf (words (taken (reading table f)))) r table out
+  unfolding answerTo
+  by-given f n t u = ap (λ (k : ℕ). byNumber k (taken (reading table f)) (blockOf (words (taken (reading table f)))) r table out) (given n (cases f) t u)
+
+  pub told : {a : After} → Right line switch r table out a → Told a
+  told {a} p = record {
+    disordered = λ c. early-number 1 tt (holds c);
+    tooLong = λ h c. early-number 2 h (holds c);
+    skipped = λ h c. early-number 100 h (holds c);
+    underivable = λ h d. p .byNone d ∙ by-given none 3 h tt;
+    tooFine = λ t d h c. later-number t d 4 h (holds c);
+    outOfRange = λ t d h c. later-number t d 5 h (holds c);
+    byZero = λ t d h c. later-number t d 6 h (holds c);
+    noParameter = λ t d h c. later-number t d 7 h (holds c);
+    notServed = λ t d h c. later-number t d 8 h (holds c);
+    givenTwice = λ t d h c. later-number t d 9 h (holds c);
+    missingOrIdle = λ t d h c. later-number t d 10 h (holds c);
+    badWord = λ t d h c. later-number t d 11 h (holds c);
+    badMode = λ t d h c. later-number t d 12 h (holds c);
+    outOfReach = λ t d h c. later-number t d 13 h (holds c);
+    unequalRadii = λ t d h c. later-number t d 14 h (holds c);
+    noRoom = λ t d h c. later-number t d 15 h (holds c);
+    works = λ t d h. later-number t d 0 h tt;
+  }
+    where
+      holds : {c : Bool} → c ≡ true → T c
+      holds e = subst T (sym e) tt
+
+      f : Option Line
+      f = parse (strip line)
+
+      early-number : (n : ℕ) → T (noneBefore n (cases f)) → T (condition n (cases f)) → a ≡ byNumber n (taken (reading table f)) (blockOf (words (taken (reading table f)))) r table out
+      early-number n t u = by-model line switch r table out p ∙ by-given f n t u
+
+      later-number : (t : Line) → Derives t line → (n : ℕ) → T (noneBefore n (cases (some t))) → T (condition n (cases (some t))) → a ≡ byNumber n (read t) (block t) r table out
+      later-number t d n h c = p .byTree t d ∙ by-given (some t) n h c
+
+  -- ---- and back
+  -- a sentence for each number of a list: what holds of it where no earlier one applies and its condition does; and for 0 where none does
+  abbrev Sentences : (Bool → Bool) → List Case → (ℕ → Type 0) → Type 0
+  Sentences before [] P = T (before true) → P 0
+  Sentences before ((n when c) ∷ cs) P = (T (before true) → c ≡ true → P n) × Sentences (λ x. before (not c && x)) cs P
+
+  by-sentences : (before : Bool → Bool) (cs : List Case) (P : ℕ → Type 0) → T (before true) → Sentences before cs P → P (first cs)
+  by-sentences before [] P t s = s t
+  by-sentences before ((n when true) ∷ cs) P t s = s .0 t refl
+  by-sentences before ((n when false) ∷ cs) P t s = by-sentences before cs P t (s .1)
+
+  never : (x y z : Bool) → T (not x && (not y && (not z && false))) → ⊥
+  never true y z t = t
+  never false true z t = t
+  never false false true t = t
+  never false false false t = t
+
+  pub untold : {a : After} → Told a → Right line switch r table out a
+  unfolding answerTo
+  untold {a} s = record {
+    byTree = λ t d. by-sentences (λ x. x) (cases (some t)) (λ n. a ≡ byNumber n (read t) (block t) r table out) tt (
+      λ _ c. s .disordered c,
+      (
+        s .tooLong,
+        (
+          s .skipped,
+          (
+            λ _ c. absurd (subst T (sym c) tt),
+            (
+              s .tooFine t d,
+              (
+                s .outOfRange t d,
+                (
+                  s .byZero t d,
+                  (
+                    s .noParameter t d,
+                    (
+                      s .notServed t d,
+                      (
+                        s .givenTwice t d,
+                        (
+                          s .missingOrIdle t d,
+                          (
+                            s .badWord t d,
+                            (s .badMode t d, (s .outOfReach t d, (s .unequalRadii t d, (s .noRoom t d, s .works t d)))),
+                          ),
+                        ),
+                      ),
+                    ),
+                  ),
+                ),
+              ),
+            ),
+          ),
+        ),
+      ),
+    );
+    byNone = λ h. by-sentences (λ x. x) (early ++ (3 when true) ∷ []) (λ n. a ≡ byNumber n end (blockOf []) r table out) tt
+        (λ _ c. s .disordered c, (s .tooLong, (s .skipped, (λ k _. s .underivable k h, λ k. absurd (never (disorder r table) (ltb 256 (length line)) (switch && slashed line) k)))));
+  }
+
+  -- ---- exactly
+  pub exactly : {a : After} → Right line switch r table out a → (t : Line) → Derives t line → (n : ℕ) → (numberOf (a .outcome .answer) ≡ n) ↔ (T (noneBefore n (cases (some t))) × T (condition n (cases (some t))))
+  unfolding answerTo
+  exactly p t d n =
+      let cs = cases (some t) in
+      let e = ap (λ (x : After). numberOf (x .outcome .answer)) (p .byTree t d) ∙ number-is (first cs) (read t) (block t) r table out in
+      (λ q. given-only n cs tt (sym e ∙ q), λ h. e ∙ given n cs (h .0) (h .1))

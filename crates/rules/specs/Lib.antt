@@ -1,0 +1,12 @@
+pub mod Numbers
+pub mod Meaning
+pub mod Codes
+pub mod Block
+pub mod With
+pub mod Reach
+pub mod Steps
+pub mod Arcs
+pub mod Commands
+pub mod Refusals
+pub mod Promise
+pub mod Frames

@@ -1,0 +1,121 @@
+-- THE PROMISE: what a call is to leave, said by the rules of the grammar and with no reader.
+-- Assumes nothing.
+use mathlib.Core.Path.{_≡_}
+use mathlib.Core.Bool.{Bool, true, false, cond, not, _&&_, _||_}
+use mathlib.Core.List.{List, [], _∷_, _++_}
+use mathlib.Core.Option.{Option, none, some}
+use Prim.Native.Nat.{ℕ}
+use lib.Dec.{eqb, ltb}
+use lib.ListN.{length, set, drop}
+use lib.IntN.{ℤ, pos}
+use Rattle.grammar.specs.Bytes.{byte}
+use Rattle.grammar.specs.Grammar.{Line}
+use Rattle.grammar.specs.Derivation.{blank, ByForm}
+use Rattle.grammar.specs.Working.{Took, end}
+use Rattle.rules.specs.Meaning.{Entry, reading, meets, words, settings, Setting}
+use Rattle.rules.specs.Block.{blockOf}
+use Rattle.rules.specs.Reach.{inOrder}
+use Rattle.rules.specs.Steps.{ready, left}
+use Rattle.rules.specs.Commands.{commands, written}
+use Rattle.rules.specs.Refusals.{Case, _when_, first, refusals}
+use Rattle.rules.specs.declared.Record.{Record}
+use Rattle.rules.specs.declared.Block.{Block}
+use Rattle.rules.specs.declared.Outcome.{Outcome}
+use Rattle.rules.specs.declared.Answer.{Answer}
+use Rattle.rules.specs.declared.Answer.the-variants.{Accepted, Refused, Skipped}
+
+-- "Acceptance carries number 0 and a skip 100. Every refusal and skip returns count 0"
+abbrev pub numberOf : Answer → ℕ
+numberOf (Accepted n) = 0
+numberOf (Refused n) = n
+numberOf Skipped = 100
+
+abbrev pub countOf : Answer → ℕ
+countOf (Accepted n) = n
+countOf (Refused n) = 0
+countOf Skipped = 0
+
+-- all that a call leaves: its result with the record, and what each lent space holds
+pub record After : Type 0 where
+  pub outcome : Outcome
+  pub table : List ℤ
+  pub out : List ℤ
+
+-- a result that has the record in it, with what table and output hold afterwards
+abbrev pub after : Outcome → List ℤ → List ℤ → After
+after o table out = record { outcome = o; table = table; out = out }
+
+-- an answer, with the record, the table and the output as it leaves them
+abbrev pub leaving : Answer → Record → List ℤ → List ℤ → After
+leaving a r table out = after (record { answer = a; rec = r }) table out
+
+-- number 1: "table length is not 5,000, or a record field is outside its range"
+unfoldable pub disorder : Record → List ℤ → Bool
+disorder r table = not (eqb (length table) 5000) || not (inOrder r)
+
+-- "a line whose first non-blank byte is `/`"
+unfoldable pub slashed : List ℕ → Bool
+slashed [] = false
+slashed (b ∷ s) = cond (blank b) (slashed s) (eqb b (byte "/"))
+
+-- number 3: "no derivation"
+abbrev pub underived : {A : Type 0} → Option A → Bool
+underived none = true
+underived (some t) = false
+
+-- what was read, where there is a derivation
+abbrev pub taken : Option (Took Entry) → Took Entry
+taken none = end
+taken (some e) = e
+
+-- "settings apply afterwards, in order, the last winning"
+abbrev pub apply : List Setting → List ℤ → List ℤ
+apply [] table = table
+apply (s ∷ ss) table = apply ss (set table (s .number) (s .value))
+
+-- an accepted line: "acceptance leaves output past the commands unchanged"
+abbrev pub over : List ℤ → List ℤ → List ℤ
+over zs out = zs ++ drop (length zs) out
+
+abbrev pub accepted : Took Entry → Block → Record → List ℤ → List ℤ → After
+accepted e b r table out =
+    leaving (Accepted (length (commands b (ready b r)))) (left b r) (apply (settings e) table) (over (written (commands b (ready b r))) out)
+
+-- "Numbers a refused line carries", each "given exactly when no earlier one applies"
+abbrev pub numbers : Bool → Took Entry → Block → List ℕ → Bool → Record → List ℤ → ℕ → List Case
+numbers wrong e b line switch r table room =
+    (1 when disorder r table)
+    ∷ (2 when ltb 256 (length line))
+    ∷ (100 when (switch && slashed line))
+    ∷ (3 when wrong)
+    ∷ (4 when meets e 4)
+    ∷ (5 when meets e 5)
+    ∷ (6 when meets e 6)
+    ∷ (7 when meets e 7)
+    ∷ refusals (words e) b (ready b r) room
+
+-- "Every refusal and skip returns count 0 and leaves record, table and output unchanged"
+abbrev pub byNumber : ℕ → Took Entry → Block → Record → List ℤ → List ℤ → After
+byNumber n e b r table out =
+    cond (eqb n 0) (accepted e b r table out)
+    (cond (eqb n 100) (leaving Skipped r table out)
+    (leaving (Refused n) r table out))
+
+abbrev pub judged : Bool → Took Entry → Block → List ℕ → Bool → Record → List ℤ → List ℤ → After
+judged wrong e b line switch r table out = byNumber (first (numbers wrong e b line switch r table (length out))) e b r table out
+
+-- what is left after a line whose reading is known
+unfoldable pub answerTo : Option (Took Entry) → List ℕ → Bool → Record → List ℤ → List ℤ → After
+answerTo e line switch r table out = judged (underived e) (taken e) (blockOf (words (taken e))) line switch r table out
+
+-- what is left for a derivation, or for none
+abbrev pub answer : Option Line → List ℕ → Bool → Record → List ℤ → List ℤ → After
+answer f line switch r table out = answerTo (reading table f) line switch r table out
+
+-- where a tree derives the line, what is left is the answer for that tree; where none does, the answer for none
+abbrev pub Right : List ℕ → Bool → Record → List ℤ → List ℤ → After → Type 0
+Right line switch r table out after = ByForm line (λ f. answer f line switch r table out) after
+
+-- the panel's number: "0, 2 or 3, for length and form only"
+unfoldable pub panel : List ℕ → Option Line → ℕ
+panel line f = first ((2 when ltb 256 (length line)) ∷ (3 when underived f) ∷ [])
