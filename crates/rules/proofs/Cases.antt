@@ -1,5 +1,5 @@
 -- Cases on both sides of each rule, by theme: every number 1 to 15, the skip, every kind of command, the three planes, both units. Whatever the promise allows for
--- each line is what its row says. The values are worked out by hand from document 01.
+-- each line is what its row says. The values are worked out from document 01, not by these definitions.
 -- Assumes nothing.
 use mathlib.Core.Path.{refl}
 use mathlib.Core.List.{List, [], _∷_, _++_, map}
@@ -195,8 +195,9 @@ codeRows =
     ∷ gives "M4.9999" fresh fresh (spins 0 ∷ [])
     -- a letter twice, two codes of one group, a move's code beside G10 or G92
     ∷ refusing fresh 9 (
-    "X1 X1" ∷ "Z1 X1 Z2" ∷ "F1 F1" ∷ "S1 S1" ∷ "T1 T1" ∷ "P1 P1" ∷ "L2 L2" ∷ "I1 I1" ∷ "G0 G80" ∷ "G17 G18" ∷ "G90 G91" ∷ "G20 G21" ∷ "G94 G94"
-    ∷ "G40 G40" ∷ "G49 G49" ∷ "G54 G59.1" ∷ "G4 G53 P1" ∷ "G92 G92.1 X1" ∷ "M0 M30" ∷ "M3 M5" ∷ "M6 M6" ∷ "M7 M8" ∷ "G0 G10 L2 P1" ∷ "G3 G92 X1" ∷ [])
+    "X1 X1" ∷ "Z1 X1 Z2" ∷ "X1 Z1 Z2" ∷ "G0 G17 G18 X1" ∷ "F1 F1" ∷ "S1 S1" ∷ "T1 T1" ∷ "P1 P1" ∷ "L2 L2" ∷ "I1 I1" ∷ "G0 G80" ∷ "G17 G18" ∷ "G90 G91"
+    ∷ "G20 G21" ∷ "G94 G94" ∷ "G40 G40" ∷ "G49 G49" ∷ "G54 G59.1" ∷ "G4 G53 P1" ∷ "G92 G92.1 X1" ∷ "M0 M30" ∷ "M3 M5" ∷ "M6 M6" ∷ "M7 M8" ∷ "G0 G10 L2 P1"
+    ∷ "G3 G92 X1" ∷ [])
     -- what is none
     ++ row "#1=1 #1=1" fresh zeros room 0 0 fresh (set zeros 1 (pos 10000)) room
     ∷ gives "G94 G40 G49 G80 G17 G21 G90 G54" fresh fresh []
@@ -222,9 +223,10 @@ wordRows =
     ++ gives "G10 L2 P1" fresh fresh []
     -- values of words
     ∷ refusing fresh 11 (
-    "F-0.0001" ∷ "S-0.0001" ∷ "G4 P-0.0001" ∷ "T-1" ∷ "T100" ∷ "T1.5" ∷ "T99.0002" ∷ "G10 L3 P1" ∷ "G10 L1.9998 P1" ∷ "G10 L2 P0" ∷ "G10 L2 P10"
-    ∷ "G10 L2 P1.5" ∷ "G10 L2 P-1" ∷ [])
+    "F-0.0001" ∷ "S-0.0001" ∷ "G4 P-0.0001" ∷ "T-1" ∷ "T100" ∷ "T1.5" ∷ "T99.0002" ∷ "G10 L1 P1" ∷ "G10 L3 P1" ∷ "G10 L1.9998 P1" ∷ "G10 L2 P0"
+    ∷ "G10 L2 P10" ∷ "G10 L2 P1.5" ∷ "G10 L2 P-1" ∷ [])
     ++ gives "F-0" fresh fresh (feedAt (pos 0) ∷ [])
+    ∷ gives "F99999.9999" (modes 800 170 900 200 540) (holding xyz0 unset xyz0 800 170 900 200 540 (pos 253999999746) (pos 0) 0 0 0) (feedAt (pos 253999999746) ∷ [])
     ∷ gives "T99.0001" fresh (holding xyz0 unset xyz0 800 170 900 210 540 (pos 0) (pos 0) 99 0 0) (selects 99 ∷ [])
     ∷ gives "T-0.0001" fresh fresh (selects 0 ∷ [])
     ∷ gives "G10 L1.9999 P9.0001 Z1" fresh (holding xyz0 (set unset 26 (record { 0 = pos 100000 })) xyz0 800 170 900 210 540 (pos 0) (pos 0) 0 0 0) []
@@ -257,9 +259,10 @@ reachRows =
     ∷ gives "G0 X-10000" (holding xyz0 (set unset 0 (record { 0 = pos 1000000000 })) (xyz (pos 1000000000) (pos 0) (pos 0)) 0 170 900 210 540 (pos 0) (pos 0) 0 0 0)
     (holding (xyz (pos 1000000000) (pos 0) (pos 0)) (set unset 0 (record { 0 = pos 1000000000 })) (xyz (pos 1000000000) (pos 0) (pos 0)) 0 170 900 210 540 (pos 0) (pos 0) 0 0 0)
     (rapidTo (pos 1000000000) (pos 0) (pos 0) ∷ [])
-    -- arcs: start is centre, radii within 200 counts, under G20 within 508
-    ∷ refusing (fed xyz0 10 170) 14 ("G2 X1 I0" ∷ "G2 X1 I0 J-0" ∷ "G3 X1 J0" ∷ "G3 X0.9979 I0.5" ∷ "G20 G2 X1.0003 I0.5" ∷ "G20 G2 X0.9997 I0.5" ∷ [])
-    ++ gives "G3 X0.998 I0.5" (fed xyz0 10 170) (fed (xyz (pos 99800) (pos 0) (pos 0)) 30 170) (arcTo 3 17 (pos 99800) (pos 0) (pos 0) (pos 50000) (pos 0) ∷ [])
+    -- arcs: the start is the centre, though the radii are near; radii within 200 counts, under G20 within 508
+    ∷ refusing (fed xyz0 10 170) 14 ("G2 X1 I0" ∷ "G2 X0 I0" ∷ "G2 X0.001 I0" ∷ "G3 Y0.001 I0 J-0" ∷ "G3 X0.9979 I0.5" ∷ "G20 G2 X1.0003 I0.5" ∷ "G20 G2 X0.0015 I0.0005 J0.0017" ∷ [])
+    ++ gives "G2 X0.001 I0.001" (fed xyz0 10 170) (fed (xyz (pos 100) (pos 0) (pos 0)) 20 170) (arcTo 2 17 (pos 100) (pos 0) (pos 0) (pos 100) (pos 0) ∷ [])
+    ∷ gives "G3 X0.998 I0.5" (fed xyz0 10 170) (fed (xyz (pos 99800) (pos 0) (pos 0)) 30 170) (arcTo 3 17 (pos 99800) (pos 0) (pos 0) (pos 50000) (pos 0) ∷ [])
     ∷ gives "G20 G2 X1.0002 I0.5" (fed xyz0 10 170) (holding (xyz (pos 2540508) (pos 0) (pos 0)) unset xyz0 20 170 900 200 540 (pos 10000000) (pos 0) 0 0 0)
     (arcTo 2 17 (pos 2540508) (pos 0) (pos 0) (pos 1270000) (pos 0) ∷ [])
     -- the radii are rounded down before they are compared: 260 and 460.98 counts differ by 200, 401.99 and 602.08 by 201

@@ -5,6 +5,9 @@ pub mod Rows
 pub mod Demands
 pub mod Told
 pub mod Index
+pub mod InOrder
+pub mod InRange
+pub mod Sound
 pub mod Order
 pub mod Roots
 pub mod Nearest

@@ -1,0 +1,6 @@
+pub mod Bits
+pub mod Ranges
+pub mod Sizes
+pub mod Lengths
+pub mod Kept
+pub mod Soles

@@ -1,0 +1,68 @@
+-- Each public function's contract allows one result.
+-- Assumes nothing.
+use mathlib.Core.Path.{refl}
+use Rattle.laws.proofs.Sole.{Sole, alike}
+use Rattle.value.proofs.work as work
+use Rattle.value.proofs.apply as apply
+use Rattle.value.proofs.lookup as lookup
+use Rattle.value.proofs.parameter as parameter
+use Rattle.value.proofs.whole as whole
+use Rattle.value.proofs.tenth as tenth
+use Rattle.value.proofs.number as number
+use Rattle.value.proofs.convert as convert
+use Rattle.value.proofs.is_below_zero as belowZero
+use Rattle.value.proofs.is_zero as isZero
+use Rattle.value.proofs.in_range as inRange
+use Rattle.value.proofs.extent as extent
+use Rattle.value.proofs.is_zero_length as isZeroLength
+use Rattle.value.proofs.in_reach as inReach
+use Rattle.value.proofs.add as add
+use Rattle.value.proofs.subtract as subtract
+
+pub work-sole : Sole work.ended (λ M. work.clauses)
+work-sole = record { says = _; is = λ M 𝓤 H A m n κs a g r e. refl; one = λ κs a r r′ ws ws′ p q. (alike p q, refl) }
+
+pub apply-sole : Sole apply.ended (λ M. apply.clauses)
+apply-sole = record { says = _; is = λ M 𝓤 H A m n κs a g r e. refl; one = λ κs a r r′ ws ws′ p q. (alike p q, refl) }
+
+pub lookup-sole : Sole lookup.ended (λ M. lookup.clauses)
+lookup-sole = record { says = _; is = λ M 𝓤 H A m n κs a g r e. refl; one = λ κs a r r′ ws ws′ p q. (alike p q, refl) }
+
+pub parameter-sole : Sole parameter.ended (λ M. parameter.clauses)
+parameter-sole = record { says = _; is = λ M 𝓤 H A m n κs a g r e. refl; one = λ κs a r r′ ws ws′ p q. (alike p q, refl) }
+
+pub whole-sole : Sole whole.ended (λ M. whole.clauses)
+whole-sole = record { says = _; is = λ M 𝓤 H A m n κs a g r e. refl; one = λ κs a r r′ ws ws′ p q. (alike p q, refl) }
+
+pub tenth-sole : Sole tenth.ended (λ M. tenth.clauses)
+tenth-sole = record { says = _; is = λ M 𝓤 H A m n κs a g r e. refl; one = λ κs a r r′ ws ws′ p q. (alike p q, refl) }
+
+pub number-sole : Sole number.ended (λ M. number.clauses)
+number-sole = record { says = _; is = λ M 𝓤 H A m n κs a g r e. refl; one = λ κs a r r′ ws ws′ p q. (alike p q, refl) }
+
+pub convert-sole : Sole convert.ended (λ M. convert.clauses)
+convert-sole = record { says = _; is = λ M 𝓤 H A m n κs a g r e. refl; one = λ κs a r r′ ws ws′ p q. (alike p q, refl) }
+
+pub is-below-zero-sole : Sole belowZero.ended (λ M. belowZero.clauses)
+is-below-zero-sole = record { says = _; is = λ M 𝓤 H A m n κs a g r e. refl; one = λ κs a r r′ ws ws′ p q. (alike p q, refl) }
+
+pub is-zero-sole : Sole isZero.ended (λ M. isZero.clauses)
+is-zero-sole = record { says = _; is = λ M 𝓤 H A m n κs a g r e. refl; one = λ κs a r r′ ws ws′ p q. (alike p q, refl) }
+
+pub in-range-sole : Sole inRange.ended (λ M. inRange.clauses)
+in-range-sole = record { says = _; is = λ M 𝓤 H A m n κs a g r e. refl; one = λ κs a r r′ ws ws′ p q. (alike p q, refl) }
+
+pub extent-sole : Sole extent.ended (λ M. extent.clauses)
+extent-sole = record { says = _; is = λ M 𝓤 H A m n κs a g r e. refl; one = λ κs a r r′ ws ws′ p q. (alike p q, refl) }
+
+pub is-zero-length-sole : Sole isZeroLength.ended (λ M. isZeroLength.clauses)
+is-zero-length-sole = record { says = _; is = λ M 𝓤 H A m n κs a g r e. refl; one = λ κs a r r′ ws ws′ p q. (alike p q, refl) }
+
+pub in-reach-sole : Sole inReach.ended (λ M. inReach.clauses)
+in-reach-sole = record { says = _; is = λ M 𝓤 H A m n κs a g r e. refl; one = λ κs a r r′ ws ws′ p q. (alike p q, refl) }
+
+pub add-sole : Sole add.ended (λ M. add.clauses)
+add-sole = record { says = _; is = λ M 𝓤 H A m n κs a g r e. refl; one = λ κs a r r′ ws ws′ p q. (alike p q, refl) }
+
+pub subtract-sole : Sole subtract.ended (λ M. subtract.clauses)
+subtract-sole = record { says = _; is = λ M 𝓤 H A m n κs a g r e. refl; one = λ κs a r r′ ws ws′ p q. (alike p q, refl) }

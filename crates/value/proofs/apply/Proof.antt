@@ -1,0 +1,31 @@
+use mathlib.Core.Path.{sym, _∙_}
+use Rattle.value.proofs.Kept.{good-kept}
+use borrow.Author.Needs.{needs}
+use Rattle.value.proofs.apply.Statement.{statement}
+use Rattle.value.proofs.apply.Tie as tie
+
+checked-requires : tie.Need-checked-requires
+checked-requires c κs = search needs
+
+enum-known-x : tie.Need-enum-known-x
+enum-known-x c = search needs
+
+function-requires : tie.Need-function-requires
+function-requires c κs =
+    let s = c .before .before .before in
+    good-kept (s .before .args .a) (c .before .x .given .0 .0) (sym (s .checked .ensures) ∙ c .before .x .given .1)
+
+enum-known-n : tie.Need-enum-known-n
+enum-known-n c = search needs
+
+returns : tie.Need-returns
+returns c =
+    c .function .ensures ∙ rw (sym (c .before .before .before .before .checked .ensures) ∙ c .before .before .x .given .1)
+
+returns-2 : tie.Need-returns-2
+returns-2 c = rw (sym (c .before .before .before .checked .ensures) ∙ c .before .n .given .1)
+
+pub apply-spec : {M : Type 1} → statement M
+apply-spec =
+    tie.close
+    (tie.spec checked-requires enum-known-x function-requires enum-known-n returns returns-2)

@@ -1,0 +1,26 @@
+use Rattle.value.proofs.Bits.{above-cast, below-fits, below-cast, below-add, below-size}
+use borrow.Author.Needs.{needs}
+use Rattle.value.proofs.signs.size_of.Statement.{statement}
+use Rattle.value.proofs.signs.size_of.Tie as tie
+
+sub-result : tie.Need-sub-result
+sub-result c = below-fits (c .before .fits .z) (c .if1 .taken)
+
+cast-result : tie.Need-cast-result
+cast-result c = below-cast (c .before .fits .z) (c .if1 .taken)
+
+add-result : tie.Need-add-result
+add-result c = below-add (c .before .fits .z) (c .if1 .taken)
+
+cast-result-2 : tie.Need-cast-result-2
+cast-result-2 c = above-cast (c .before .fits .z) (c .if1 .left)
+
+returns : tie.Need-returns
+returns c = below-size (c .before .fits .z) (c .if1 .taken)
+
+returns-2 : tie.Need-returns-2
+returns-2 c = search needs
+
+pub size-of-spec : {M : Type 1} → statement M
+size-of-spec =
+    tie.close (tie.spec sub-result cast-result add-result cast-result-2 returns returns-2)
