@@ -1,0 +1,4 @@
+pub mod Unique
+pub mod Ways
+pub mod BadArc
+pub mod Soles

@@ -1,0 +1,4 @@
+pub mod Mask
+pub mod Turns
+pub mod Apart
+pub mod Soles
