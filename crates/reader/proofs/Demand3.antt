@@ -1,0 +1,168 @@
+-- Demand 3, of what `read` leaves: for a derived line the tree's words and settings, in order and with their values, up to the first of numbers 4 to 7;
+-- and a wrong form exactly where there is no derivation. Every law here follows from the contract alone.
+-- Assumes nothing.
+use mathlib.Core.Path.{_≡_, refl, sym, ap, _∙_}
+use mathlib.Core.List.{List, [], _∷_, _++_, map}
+use mathlib.Core.Logic.{_⊎_, ⊎-elim}
+use mathlib.Core.Option.{Option, none, some}
+use Prim.Native.Nat.{ℕ, _+_, _≤_, _<_}
+use native.Mathlib.Omega.{arith}
+use borrow.Author.Tests.{le-ltb, lt-ltb}
+use lib.IntN.{ℤ}
+use lib.ListN.{length, drop, length-map}
+use lib.Seq.{sets, sets-eq}
+use Rattle.grammar.specs.Grammar.{Item, word, setting, comment, Line, line}
+use Rattle.grammar.specs.Derivation.{strip, Derives}
+use Rattle.grammar.specs.Working.{Step, Took, end, stopped, took, after, value, entries, lineEntries}
+use Rattle.grammar.proofs.Derivations.{decided}
+use Rattle.grammar.proofs.Lengths.{wordCount, settingCount, itemsOf, few}
+use Rattle.rules.specs.Meaning.{Entry, wordOf, settingOf, settingAt, parameterOf, arithmetic, reading, stoppedBy, Said, Setting, words, settings}
+use Rattle.rules.specs.declared.Worked.{Worked}
+use Rattle.rules.specs.declared.Worked.the-variants.{Good, Bad}
+use Rattle.rules.specs.declared.Parameter.{Parameter}
+use Rattle.rules.specs.declared.Parameter.the-variants.{Number as Numbered, Outside}
+use Rattle.reader.specs.Underived.{stuck, FirstWrong}
+use Rattle.reader.specs.Reading.{Spaces, stored, stopOf, counted, outcome, Left, left, leftBy, leaves, Reads}
+use Rattle.reader.specs.declared.line.Reading.{Reading}
+use Rattle.reader.specs.declared.line.Reading.the-variants.{Read as Whole, Stopped, Wrong, TooLong}
+use Rattle.reader.proofs.Stops.{Refusal, StopsSo, line-stops}
+use Rattle.reader.proofs.Stuck.{stuck-first}
+use Rattle.reader.proofs.Clash.{clash}
+
+-- ---- what an answer for a tree tells
+
+never-wrong : (o : Option ℕ) (w n : ℕ) {p : ℕ} {X : Type 0} → counted o w n ≡ Wrong p → X
+never-wrong none w n e = clash (cc)
+never-wrong (some k) w n e = clash (cc)
+
+-- the number that stopped the reading is the rules' one
+stopped-is : (e : Took Entry) (w n : ℕ) {k : ℕ} → counted (stopOf e) w n ≡ Stopped k → StopsSo e → (stoppedBy e ≡ k) × Refusal k
+stopped-is end w n h s = clash (cc)
+stopped-is (stopped m) w n {k} h s = let d : m ≡ k = cc in (d, rw d at s)
+stopped-is (took x e) w n h s = stopped-is e w n h s
+
+whole-is : (e : Took Entry) (w n : ℕ) {v m : ℕ} → counted (stopOf e) w n ≡ Whole v m → (stoppedBy e ≡ 0) × (w ≡ v) × (n ≡ m)
+whole-is end w n h = (refl, cc, cc)
+whole-is (stopped m) w n h = clash (cc)
+whole-is (took x e) w n h = whole-is e w n h
+
+-- ---- the lent spaces have room for a derived line
+
+module _ (t : List ℤ) where
+  -- an item adds a word only where it is one, and a setting likewise
+  record Adds (w n : ℕ) (st : Step Entry) : Type 0 where
+    words-more : (e : Took Entry) → length (words (after st e)) ≤ w + length (words e)
+    settings-more : (e : Took Entry) → length (settings (after st e)) ≤ n + length (settings e)
+
+  word-adds : (b : ℕ) (a : Worked) → Adds 1 0 (wordOf b a)
+  word-adds b (Good v) = record { words-more = λ e. omega arith; settings-more = λ e. omega arith }
+  word-adds b (Bad k) = record { words-more = λ e. omega arith; settings-more = λ e. omega arith }
+
+  setting-adds : (a b : Worked) → Adds 0 1 (settingOf a b)
+  setting-adds (Bad k) b = record { words-more = λ e. omega arith; settings-more = λ e. omega arith }
+  setting-adds (Good v) b = go (parameterOf (v .0)) b
+    where
+      go : (q : Parameter) (b : Worked) → Adds 0 1 (settingAt q b)
+      go Outside b = record { words-more = λ e. omega arith; settings-more = λ e. omega arith }
+      go (Numbered n) (Good w) = record { words-more = λ e. omega arith; settings-more = λ e. omega arith }
+      go (Numbered n) (Bad k) = record { words-more = λ e. omega arith; settings-more = λ e. omega arith }
+
+  counts : (is : List Item) → (length (words (entries (arithmetic t) is)) ≤ wordCount is) × (length (settings (entries (arithmetic t) is)) ≤ settingCount is)
+  counts [] = (omega arith, omega arith)
+  counts (word b v ∷ is) =
+      let k = word-adds b (value (arithmetic t) v) in
+      (omega (arith, counts is, k .words-more (entries (arithmetic t) is)), omega (arith, counts is, k .settings-more (entries (arithmetic t) is)))
+  counts (setting v w ∷ is) =
+      let k = setting-adds (value (arithmetic t) v) (value (arithmetic t) w) in
+      (omega (arith, counts is, k .words-more (entries (arithmetic t) is)), omega (arith, counts is, k .settings-more (entries (arithmetic t) is)))
+  counts (comment bs ∷ is) = counts is
+
+  line-counts : (u : Line) → (length (words (lineEntries (arithmetic t) u)) ≤ wordCount (itemsOf u)) × (length (settings (lineEntries (arithmetic t) u)) ≤ settingCount (itemsOf u))
+  line-counts (line s n is) = counts is
+
+-- stored from the front, and past that what was there
+at-front : {X Y : Type 0} (f : X → Y) (xs : List X) (old : List Y) → length xs ≤ length old → sets old 0 (map f xs) ≡ map f xs ++ drop (length xs) old
+at-front f xs old h =
+    let k : 0 + length (map f xs) ≡ length xs = (let z = length-map xs f in omega arith) in
+    sets-eq (map f xs) old 0 (omega (arith, k)) ∙ ap (λ (n : ℕ). map f xs ++ drop n old) k
+
+-- the spaces begin with the words and settings of a reading, and past those hold what was there
+pub record Fronts (e : Took Entry) (old sp : Spaces) : Type 0 where
+  pub letters : sp .letters ≡ map (λ (x : Said). x .letter) (words e) ++ drop (length (words e)) (old .letters)
+  pub values : sp .values ≡ map (λ (x : Said). x .value) (words e) ++ drop (length (words e)) (old .values)
+  pub numbers : sp .numbers ≡ map (λ (x : Setting). x .number) (settings e) ++ drop (length (settings e)) (old .numbers)
+  pub amounts : sp .amounts ≡ map (λ (x : Setting). x .value) (settings e) ++ drop (length (settings e)) (old .amounts)
+
+-- ---- the promise by length
+
+short-leaves : (l : List ℕ) (t : List ℤ) (old : Spaces) (f : Option Line) → length l ≤ 256 → leaves l t old f ≡ leftBy l t old (reading t f)
+unfolding leaves
+short-leaves l t old f h = rw (le-ltb 256 (length l) h)
+
+long-leaves : (l : List ℕ) (t : List ℤ) (old : Spaces) (f : Option Line) → 256 < length l → leaves l t old f ≡ left TooLong old
+unfolding leaves
+long-leaves l t old f h = rw (lt-ltb 256 (length l) h)
+
+-- ---- the promise, for a line of at most 256 bytes
+
+module _ (l : List ℕ) (t : List ℤ) (old : Spaces) (r : Reading) (sp : Spaces) (h : length l ≤ 256) (p : Reads l t old r sp) where
+  -- what is left is the derivation's
+  module _ (u : Line) (d : Derives u l) where
+    both : left r sp ≡ left (outcome (lineEntries (arithmetic t) u)) (stored (lineEntries (arithmetic t) u) old)
+    both = p .byTree u d ∙ short-leaves l t old (some u) h
+
+    -- the answer: how many words and settings the tree has, or the number that stopped the reading
+    pub tree-answer : r ≡ outcome (lineEntries (arithmetic t) u)
+    tree-answer = ap (λ (x : Left). x .answer) both
+
+    -- the tree's words and settings are stored, in order, with their values
+    pub tree-stored : sp ≡ stored (lineEntries (arithmetic t) u) old
+    tree-stored = ap (λ (x : Left). x .lent) both
+
+    -- so the spaces begin with them, and past them hold what was there
+    pub tree-fronts : length (old .letters) ≡ 128 → length (old .values) ≡ 128 → length (old .numbers) ≡ 64 → length (old .amounts) ≡ 64 → Fronts (lineEntries (arithmetic t) u) old sp
+    tree-fronts a b c g =
+        let k = line-counts t u in
+        let m = few d h in
+        rw tree-stored
+        (record {
+          letters = at-front (λ (x : Said). x .letter) (words (lineEntries (arithmetic t) u)) (old .letters) (omega (arith, k, m));
+          values = at-front (λ (x : Said). x .value) (words (lineEntries (arithmetic t) u)) (old .values) (omega (arith, k, m));
+          numbers = at-front (λ (x : Setting). x .number) (settings (lineEntries (arithmetic t) u)) (old .numbers) (omega (arith, k, m));
+          amounts = at-front (λ (x : Setting). x .value) (settings (lineEntries (arithmetic t) u)) (old .amounts) (omega (arith, k, m));
+        })
+
+    -- a line that is read is stopped by none of numbers 4 to 7, and the counts are those of its words and settings
+    pub tree-read : (w n : ℕ) → r ≡ Whole w n →
+        (stoppedBy (lineEntries (arithmetic t) u) ≡ 0) × (length (words (lineEntries (arithmetic t) u)) ≡ w) × (length (settings (lineEntries (arithmetic t) u)) ≡ n)
+    tree-read w n e = whole-is (lineEntries (arithmetic t) u) _ _ (sym tree-answer ∙ e)
+
+    -- and a line that is stopped is stopped by the number that the rules name, one of 4 to 7
+    pub tree-stopped : (k : ℕ) → r ≡ Stopped k → (stoppedBy (lineEntries (arithmetic t) u) ≡ k) × Refusal k
+    tree-stopped k e = stopped-is (lineEntries (arithmetic t) u) _ _ (sym tree-answer ∙ e) (line-stops t u)
+
+    tree-not-wrong : (q : ℕ) → ¬ (r ≡ Wrong q)
+    tree-not-wrong q e = never-wrong (stopOf (lineEntries (arithmetic t) u)) _ _ (sym tree-answer ∙ e)
+
+  -- a wrong form exactly where no tree derives the line
+  pub wrong-none : (q : ℕ) → r ≡ Wrong q → (u : Line) → ¬ Derives u l
+  wrong-none q e u d = tree-not-wrong u d q e
+
+  none-answer : ((u : Line) → ¬ Derives u l) → r ≡ Wrong (stuck (strip l))
+  none-answer n = ap (λ (x : Left). x .answer) (p .byNone n ∙ short-leaves l t old none h)
+
+  pub none-wrong : ((u : Line) → ¬ Derives u l) → (q : ℕ) × (r ≡ Wrong q)
+  none-wrong n = (stuck (strip l), none-answer n)
+
+  -- and the place told is the first at which no right line can go on
+  pub wrong-first : (q : ℕ) → r ≡ Wrong q → FirstWrong (strip l) q
+  wrong-first q e =
+      let n = wrong-none q e in
+      let k : stuck (strip l) ≡ q = cc (none-answer n, e) in
+      rw k at (stuck-first l n)
+
+-- a longer line is answered so, and leaves the spaces as they were
+pub long-line : (l : List ℕ) (t : List ℤ) (old : Spaces) (r : Reading) (sp : Spaces) → 256 < length l → Reads l t old r sp → (r ≡ TooLong) × (sp ≡ old)
+long-line l t old r sp h p =
+    let e = ⊎-elim (λ w. p .byTree (w .0) (w .1) ∙ long-leaves l t old (some (w .0)) h) (λ n. p .byNone n ∙ long-leaves l t old none h) (decided l) in
+    (ap (λ (x : Left). x .answer) e, ap (λ (x : Left). x .lent) e)

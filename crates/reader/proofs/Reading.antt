@@ -1,0 +1,182 @@
+-- From the prepared bytes to the derivation: whoever reads as the model does leaves what the derivation says.
+-- Assumes nothing.
+use mathlib.Core.Path.{_≡_, refl, sym, ap, ap₂, _∙_}
+use mathlib.Core.Bool.{Bool, true, false, cond}
+use mathlib.Core.List.{List, [], _++_}
+use mathlib.Core.Option.{Option, none, some}
+use Prim.Native.Nat.{ℕ, _+_, _-_, _≤_, _<_}
+use native.Mathlib.Omega.{arith}
+use borrow.Author.Tests.{leb-true, leb-false, le-ltb, lt-ltb}
+use lib.Dec.{leb}
+use lib.IntN.{ℤ}
+use lib.ListN.{length, take, drop, length-append}
+use lib.Seq.{take-at}
+use Rattle.grammar.specs.Grammar.{Item, Line, line, Slash, Label}
+use Rattle.grammar.specs.Derivation.{strip, Derives, ByForm}
+use Rattle.grammar.specs.Working.{Arithmetic, Took, entries, lineEntries}
+use Rattle.grammar.proofs.Read.{Read, fail, got, bind, mapR, readSlash, readLabel, readLine, itemsOf}
+use Rattle.grammar.proofs.LineBack.{line-back}
+use Rattle.grammar.proofs.Lengths.{strip-length}
+use Rattle.grammar.proofs.OnePass.{line-same}
+use Rattle.grammar.proofs.Place.{Placed, wrong, found, place}
+use Rattle.grammar.proofs.Items.{lineP}
+use Rattle.grammar.proofs.ByForm.{by-pass, byLine}
+use Rattle.rules.specs.Meaning.{Entry, arithmetic}
+use Rattle.rules.specs.Promise.{panel}
+use Rattle.rules.specs.declared.Worked.{Worked}
+use Rattle.reader.specs.Pass.{pass, guarded}
+use Rattle.reader.specs.Prepare.{bytesOf, prepared}
+use Rattle.reader.specs.Underived.{stuck, leading, pastBeginning, leadingAfter, gathered}
+use Rattle.reader.specs.Reading.{Spaces, stored, left, leaves, Reads}
+use Rattle.reader.specs.Gather.{checked, answered}
+use Rattle.reader.specs.declared.text.Prepared.the-variants.{Bytes, TooLong as NoRoom}
+use Rattle.reader.specs.declared.line.Checked.{Checked}
+use Rattle.reader.specs.declared.line.Checked.the-variants.{Right, Wrong as Broken}
+use Rattle.reader.specs.declared.line.Reading.{Reading}
+use Rattle.reader.specs.declared.line.Reading.the-variants.{TooLong}
+use Rattle.reader.proofs.Guarding.{guarded-items, guarded-line}
+use Rattle.reader.proofs.Passing.{all-lead}
+use Rattle.reader.proofs.Clash.{clash}
+
+-- ---- the prepared bytes
+
+module _ (l : List ℕ) (room : ℕ) where
+  fits-is : {n : ℕ} → Bytes n ≡ bytesOf l room → (leb (length l) room ≡ true) × (n ≡ length (strip l))
+  unfolding bytesOf
+  fits-is {n} e = go (leb (length l) room) e
+    where
+      go : (c : Bool) → Bytes n ≡ cond c (Bytes (length (strip l))) NoRoom → (c ≡ true) × (n ≡ length (strip l))
+      go true h = (refl, let k : n ≡ length (strip l) = cc in k)
+      go false h = clash (cc)
+
+  long-is : NoRoom ≡ bytesOf l room → leb (length l) room ≡ false
+  unfolding bytesOf
+  long-is e = go (leb (length l) room) e
+    where
+      go : (c : Bool) → NoRoom ≡ cond c (Bytes (length (strip l))) NoRoom → c ≡ false
+      go true h = clash (cc)
+      go false h = refl
+
+-- the line has been prepared into the front of a text of 256 bytes
+module _ (l old : List ℕ) (room : length old ≡ 256) {n : ℕ} {text : List ℕ} (p : Bytes n ≡ bytesOf l (length old)) (q : text ≡ prepared l old) where
+  content : text ≡ strip l ++ drop (length (strip l)) old
+  unfolding prepared
+  content = q ∙ rw (fits-is l (length old) p .0)
+
+  pub front-is : take n text ≡ strip l
+  front-is = rw (content, fits-is l (length old) p .1) (take-at (strip l) (drop (length (strip l)) old) (length (strip l)) refl)
+
+  pub front-within : n ≤ length text
+  front-within = omega (arith, fits-is l (length old) p .1, ap length content, length-append (strip l) (drop (length (strip l)) old))
+
+  pub front-long : n ≡ length (take n text)
+  front-long = fits-is l (length old) p .1 ∙ sym (ap length front-is)
+
+  pub short : length l ≤ 256
+  short = leb-true (length l) 256 (rw room at (fits-is l (length old) p .0))
+
+  pub front-short : length (take n text) ≤ 256
+  front-short = rw front-is (omega (arith, strip-length l, short))
+
+pub too-long : (l : List ℕ) (room : ℕ) → room ≡ 256 → NoRoom ≡ bytesOf l room → 256 < length l
+too-long l room e p = leb-false (length l) 256 (rw e at (long-is l room p))
+
+-- ---- what the model's reader says, by derivations
+
+module _ (t : List ℤ) (s : List ℕ) where
+  by-line : lineP (pass t) s ≡ place s (mapR (lineEntries (guarded t)) (readLine s))
+  unfolding lineP
+  by-line = ap (place s) (line-same (pass t) s)
+
+-- the items at the front of a derived line are its items
+items-lead : (s : List ℕ) (u : Line) (A : Arithmetic Worked Entry) → readLine s ≡ got u [] → gathered A s ≡ lineEntries A u
+unfolding gathered
+items-lead s u A e = go (readSlash s) e
+  where
+    items : (sl : Slash) (n : Label) (q : List ℕ) (m : Read (List Item)) → itemsOf q ≡ m → mapR (line sl n) m ≡ got u [] → entries A (leading q) ≡ lineEntries A u
+    items sl n q (fail z) h k = clash (cc)
+    items sl n q (got is r) h k = ap (entries A) (all-lead q h) ∙ ap (lineEntries A) (let d : line sl n is ≡ u = cc in d)
+
+    label : (sl : Slash) (m : Read Label) → bind m (λ n q. mapR (line sl n) (itemsOf q)) ≡ got u [] → entries A (leadingAfter (bind m (λ _ r. got tt r))) ≡ lineEntries A u
+    label sl (fail z) k = clash (cc)
+    label sl (got n q) k = items sl n q (itemsOf q) refl k
+
+    go : (m : Read Slash) → bind m (λ sl r. bind (readLabel r) (λ n q. mapR (line sl n) (itemsOf q))) ≡ got u [] →
+        entries A (leadingAfter (bind m (λ _ r. bind (readLabel r) (λ _ q. got tt q)))) ≡ lineEntries A u
+    go (fail z) k = clash (cc)
+    go (got sl r) k = label sl (readLabel r) k
+
+-- what was found, or nothing
+abbrev foundIn : Placed (Took Entry) → Option (Took Entry)
+foundIn (wrong p) = none
+foundIn (found e p) = some e
+
+module _ (t : List ℤ) (l : List ℕ) where
+  by-found : ByForm l (byLine (pass t) foundIn none (λ e. some e) (λ e p. refl) (λ p. refl)) (foundIn (lineP (pass t) (strip l)))
+  by-found = by-pass (pass t) foundIn none (λ e. some e) (λ e p. refl) (λ p. refl) refl
+
+  -- a derived line
+  module _ {u : Line} (d : Derives u l) where
+    read-back : readLine (strip l) ≡ got u []
+    read-back = rw (d .writes, line-back u (d .ok))
+
+    line-found : lineP (pass t) (strip l) ≡ found (lineEntries (arithmetic t) u) (length (strip l) - 0)
+    line-found = by-line t (strip l) ∙ ap (λ (m : Read Line). place (strip l) (mapR (lineEntries (guarded t)) m)) read-back ∙ ap (λ (e : Took Entry). found e (length (strip l) - 0)) (guarded-line t u)
+
+    gathered-tree : gathered (guarded t) (strip l) ≡ lineEntries (arithmetic t) u
+    gathered-tree = items-lead (strip l) u (guarded t) read-back ∙ guarded-line t u
+
+  -- a line that has no derivation
+  module _ (none-at-all : (u : Line) → ¬ Derives u l) where
+    pub none-fails : (q : List ℕ) × (readLine (strip l) ≡ fail q)
+    none-fails = go (readLine (strip l)) refl (ap foundIn (sym (by-line t (strip l))) ∙ by-found .byNone none-at-all)
+      where
+        go : (m : Read Line) → readLine (strip l) ≡ m → foundIn (place (strip l) (mapR (lineEntries (guarded t)) (readLine (strip l)))) ≡ none → (q : List ℕ) × (readLine (strip l) ≡ fail q)
+        go (fail q) e h = (q, e)
+        go (got u q) e h = let k : foundIn (place (strip l) (mapR (lineEntries (guarded t)) (got u q))) ≡ none = rw e at h in clash (cc)
+
+    line-stuck : lineP (pass t) (strip l) ≡ wrong (stuck (strip l))
+    unfolding stuck
+    line-stuck = by-line t (strip l) ∙ rw (none-fails .1)
+
+  gathered-any : gathered (guarded t) (strip l) ≡ gathered (arithmetic t) (strip l)
+  unfolding gathered
+  gathered-any = guarded-items t (leadingAfter (pastBeginning (strip l)))
+
+-- ---- the two promises
+
+-- a line of at most 256 bytes, read as the model reads it
+pub reads-by-form : (t : List ℤ) (l : List ℕ) (old : Spaces) {text : List ℕ} {r : Reading} {sp : Spaces} → length l ≤ 256 → text ≡ strip l →
+    (r ≡ answered (lineP (pass t) text)) × (sp ≡ stored (gathered (guarded t) text) old) → Reads l t old r sp
+unfolding leaves
+reads-by-form t l old {text} {r} {sp} h f e = record {
+  byTree = λ u d. ap₂ left
+      (e .0 ∙ ap (λ (x : List ℕ). answered (lineP (pass t) x)) f ∙ ap answered (line-found t l d))
+      (e .1 ∙ ap (λ (x : List ℕ). stored (gathered (guarded t) x) old) f ∙ ap (λ (x : Took Entry). stored x old) (gathered-tree t l d))
+      ∙ rw (le-ltb 256 (length l) h);
+  byNone = λ n. ap₂ left
+      (e .0 ∙ ap (λ (x : List ℕ). answered (lineP (pass t) x)) f ∙ ap answered (line-stuck t l n))
+      (e .1 ∙ ap (λ (x : List ℕ). stored (gathered (guarded t) x) old) f ∙ ap (λ (x : Took Entry). stored x old) (gathered-any t l))
+      ∙ rw (le-ltb 256 (length l) h);
+}
+
+-- a longer one
+pub long-by-form : (t : List ℤ) (l : List ℕ) (old : Spaces) → 256 < length l → Reads l t old TooLong old
+unfolding leaves
+long-by-form t l old h = record { byTree = λ u d. rw (lt-ltb 256 (length l) h); byNone = λ n. rw (lt-ltb 256 (length l) h) }
+
+-- the number of a form that was checked
+abbrev numbered : Checked → ℕ
+numbered Right = 0
+numbered (Broken p) = 3
+
+pub form-by-form : (t : List ℤ) (l : List ℕ) {text : List ℕ} {c : Checked} → length l ≤ 256 → text ≡ strip l → c ≡ checked (lineP (pass t) text) → ByForm l (panel l) (numbered c)
+unfolding panel
+form-by-form t l {text} {c} h f e = record {
+  byTree = λ u d. ap numbered (e ∙ ap (λ (x : List ℕ). checked (lineP (pass t) x)) f ∙ ap checked (line-found t l d)) ∙ rw (le-ltb 256 (length l) h);
+  byNone = λ n. ap numbered (e ∙ ap (λ (x : List ℕ). checked (lineP (pass t) x)) f ∙ ap checked (line-stuck t l n)) ∙ rw (le-ltb 256 (length l) h);
+}
+
+pub long-form : (l : List ℕ) → 256 < length l → ByForm l (panel l) 2
+unfolding panel
+long-form l h = record { byTree = λ u d. rw (lt-ltb 256 (length l) h); byNone = λ n. rw (lt-ltb 256 (length l) h) }

@@ -1,0 +1,47 @@
+use Rattle.rules.specs.Meaning.{Entry}
+use Rattle.grammar.specs.Working.{Took}
+use Rattle.reader.specs.Reading.{spaces, stored}
+use Rattle.reader.specs.Gather.{answered}
+use Rattle.reader.proofs.Beginning.{slash-on, label-within, line-items, line-wrong, gathers-items, gathers-nothing}
+use mathlib.Core.Path.{ap, _∙_}
+use borrow.Author.Needs.{needs}
+use Rattle.reader.proofs.line.read_text.Statement.{statement}
+use Rattle.reader.proofs.line.read_text.Tie as tie
+use Rattle.reader.proofs.line.read_text.Reads as reads
+use Rattle.reader.proofs.line.read_text.Lts as lts
+use Rattle.reader.proofs.line.gather.Reads as gather-reads
+use Rattle.reader.proofs.line.label_end.Reads as label-end-reads
+use Rattle.reader.proofs.line.slash_end.Reads as slash-end-reads
+
+slash-end-requires : tie.Need-slash-end-requires
+slash-end-requires c κs = search needs
+
+label-end-requires : tie.Need-label-end-requires
+label-end-requires c κs = rw (c .slash-end .ensures) (slash-on (c .before .before .args .text .now))
+
+enum-known-p : tie.Need-enum-known-p
+enum-known-p c = search needs
+
+gather-requires : tie.Need-gather-requires
+gather-requires c κs = (label-within (c .before .before .before .before .before .before .before .before .before .before .args .text .now) (c .before .before .before .before .before .before .before .before .slash-end .result) (rw (c .before .before .before .before .before .p .given .1) at (c .before .before .before .before .before .before .before .label-end .ensures)), c .before .before .before .before .before .before .before .before .before .before .pre)
+
+enum-known-p-2 : tie.Need-enum-known-p-2
+enum-known-p-2 c = search needs
+
+returns : tie.Need-returns
+returns c = (c .gather .ensures .0 ∙ ap answered (line-items (c .before .before .before .before .before .before .before .before .before .before .before .args .table .now) (c .before .before .before .before .before .before .before .before .before .before .before .args .text .now) (c .before .before .before .before .before .before .before .before .before .slash-end .ensures) (rw (c .before .before .before .before .before .before .p .given .1) at (c .before .before .before .before .before .before .before .before .label-end .ensures))), c .gather .ensures .1 ∙ ap (λ (e : Took Entry). stored e (spaces (c .before .before .before .before .before .before .before .before .before .before .before .args .letters .now) (c .before .before .before .before .before .before .before .before .before .before .before .args .values .now) (c .before .before .before .before .before .before .before .before .before .before .before .args .numbers .now) (c .before .before .before .before .before .before .before .before .before .before .before .args .amounts .now))) (gathers-items (c .before .before .before .before .before .before .before .before .before .before .before .args .table .now) (c .before .before .before .before .before .before .before .before .before .before .before .args .text .now) (c .before .before .before .before .before .before .before .before .before .slash-end .ensures) (rw (c .before .before .before .before .before .before .p .given .1) at (c .before .before .before .before .before .before .before .before .label-end .ensures))))
+
+returns-2 : tie.Need-returns-2
+returns-2 c = (ap answered (line-wrong (c .before .before .before .before .before .before .args .table .now) (c .before .before .before .before .before .before .args .text .now) (c .before .before .before .before .slash-end .ensures) (rw (c .before .p2 .given .1) at (c .before .before .before .label-end .ensures))), ap (λ (e : Took Entry). stored e (spaces (c .before .before .before .before .before .before .args .letters .now) (c .before .before .before .before .before .before .args .values .now) (c .before .before .before .before .before .before .args .numbers .now) (c .before .before .before .before .before .before .args .amounts .now))) (gathers-nothing (c .before .before .before .before .before .before .args .table .now) (c .before .before .before .before .before .before .args .text .now) (c .before .before .before .before .slash-end .ensures) (rw (c .before .p2 .given .1) at (c .before .before .before .label-end .ensures))))
+
+pub read-text-spec : {M : Type 1} → statement M
+read-text-spec =
+    tie.close
+    (tie.spec
+    slash-end-requires
+    label-end-requires
+    enum-known-p
+    gather-requires
+    enum-known-p-2
+    returns
+    returns-2)

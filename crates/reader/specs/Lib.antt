@@ -1,0 +1,7 @@
+pub mod Prepare
+pub mod Pass
+pub mod Places
+pub mod Cursor
+pub mod Underived
+pub mod Reading
+pub mod Gather

@@ -1,0 +1,240 @@
+// The whole line: what is read is stored in lent spaces, in order.
+ghost use mathlib.Core.Path.{_≡_};
+ghost use mathlib.Core.List.{[]};
+ghost use Prim.Native.Nat.{_≤_, _<_};
+ghost use lib.ListN.{length, set};
+ghost use Rattle.grammar.specs.Derivation.{ByForm};
+ghost use Rattle.grammar.proofs.Items.{itemsP, labelP, lineP};
+ghost use Rattle.rules.specs.Promise.{panel};
+ghost use Rattle.reader.specs.Pass.{pass, guarded};
+ghost use Rattle.reader.specs.Places.{labelEnd, slashEnd};
+ghost use Rattle.reader.specs.Gather.{checked, refused, answered, gatheredAt};
+ghost use Rattle.reader.specs.Underived.{gathered};
+ghost use Rattle.reader.specs.Reading.{spaces, stored, Reads};
+use super::cursor::item_from;
+use super::items::Item;
+use super::numbers::digits_from;
+use super::spelling::Spelt;
+use super::text::Prepared;
+use super::text::prepare;
+use rules::Value;
+
+// What became of a line.
+pub enum Reading {
+    // It is read: so many words and so many settings are stored.
+    Read(usize, usize),
+    // Its form is right, but it is refused with this number, 4 to 7: the first in working order.
+    Stopped(u8),
+    // It has no derivation. The place, among the prepared bytes, of the first at which it cannot go on.
+    Wrong(usize),
+    // It has more than 256 bytes.
+    TooLong,
+}
+
+// Whether the form is right to the line's end, and if not, where it is wrong.
+enum Checked {
+    Right,
+    Wrong(usize),
+}
+
+// The place past `/`, where it stands first.
+fn slash_end(text: &[u8]) -> usize
+    ensures { λ r. ⌜ r ≡ slashEnd (now (text .entry)) ⌝ }
+{
+    if text.len() == 0 {
+        return 0;
+    }
+    if text[0] == b'/' { 1 } else { 0 }
+}
+
+// The place past N and its one to five digits, where N stands here.
+fn label_end(text: &[u8], at: usize) -> Spelt
+    requires { ⌜ at ≤ length (now text) ⌝ }
+    ensures { λ r. ⌜ r ≡ labelEnd (labelP (pass []) (now (text .entry)) at) ⌝ }
+{
+    if text.len() <= at {
+        return Spelt::To(at);
+    }
+    if text[at] != b'N' {
+        return Spelt::To(at);
+    }
+    let digits = digits_from(text, at + 1, 0);
+    if digits.next == at + 1 {
+        return Spelt::Not(digits.next);
+    }
+    if at + 6 < digits.next {
+        return Spelt::Not(at + 6);
+    }
+    Spelt::To(digits.next)
+}
+
+// The form of the items from here on.
+fn check_from(text: &[u8], table: &[i64], at: usize) -> Checked
+    requires { ⌜ at ≤ length (now text) ⌝ }
+    ensures { λ r. ⌜ r ≡ checked (itemsP (pass (now (table .entry))) (now (text .entry)) at) ⌝ }
+{
+    let mut i = at;
+    loop {
+        match item_from(text, table, i) {
+            Item::Word(_, _, next) => {
+                i = next;
+            }
+            Item::Setting(_, _, next) => {
+                i = next;
+            }
+            Item::Comment(next) => {
+                i = next;
+            }
+            Item::Stop(_, next) => {
+                i = next;
+            }
+            Item::Wrong(p) => {
+                return Checked::Wrong(p);
+            }
+            Item::End => {
+                return Checked::Right;
+            }
+        }
+    }
+}
+
+// A refused line, once its form is known: a wrong form comes first.
+fn refused(number: u8, form: Checked) -> Reading
+    ensures { λ r. ⌜ r ≡ refused number form ⌝ }
+{
+    match form {
+        Checked::Right => Reading::Stopped(number),
+        Checked::Wrong(p) => Reading::Wrong(p),
+    }
+}
+
+fn store_word(letters: &mut [u8; 128], values: &mut [i64; 128], n: usize, letter: u8, value: Value)
+    requires { ⌜ n < 128 ⌝ }
+    ensures { λ r. ⌜ (now (letters .exit) ≡ set (now (letters .entry)) n letter) × (now (values .exit) ≡ set (now (values .entry)) n (value .0)) ⌝ }
+{
+    let amount = value.0;
+    letters[n] = letter;
+    values[n] = amount;
+}
+
+fn store_setting(
+    numbers: &mut [usize; 64],
+    amounts: &mut [i64; 64],
+    n: usize,
+    number: usize,
+    value: Value,
+)
+    requires { ⌜ n < 64 ⌝ }
+    ensures { λ r. ⌜ (now (numbers .exit) ≡ set (now (numbers .entry)) n number) × (now (amounts .exit) ≡ set (now (amounts .entry)) n (value .0)) ⌝ }
+{
+    let amount = value.0;
+    numbers[n] = number;
+    amounts[n] = amount;
+}
+
+// Reads the items from here on, and stores their words and settings up to the first that is refused.
+fn gather(
+    text: &[u8],
+    table: &[i64],
+    at: usize,
+    letters: &mut [u8; 128],
+    values: &mut [i64; 128],
+    numbers: &mut [usize; 64],
+    amounts: &mut [i64; 64],
+) -> Reading
+    requires { ⌜ (at ≤ length (now text)) × (length (now text) ≤ 256) ⌝ }
+    ensures { λ r. ⌜ (r ≡ answered (itemsP (pass (now (table .entry))) (now (text .entry)) at)) × (spaces (now (letters .exit)) (now (values .exit)) (now (numbers .exit)) (now (amounts .exit)) ≡ stored (gatheredAt (now (table .entry)) (now (text .entry)) at) (spaces (now (letters .entry)) (now (values .entry)) (now (numbers .entry)) (now (amounts .entry)))) ⌝ }
+{
+    let mut words: usize = 0;
+    let mut settings: usize = 0;
+    let mut i = at;
+    loop {
+        match item_from(text, table, i) {
+            Item::Word(letter, value, next) => {
+                store_word(letters, values, words, letter, value);
+                words += 1;
+                i = next;
+            }
+            Item::Setting(number, value, next) => {
+                store_setting(numbers, amounts, settings, number, value);
+                settings += 1;
+                i = next;
+            }
+            Item::Comment(next) => {
+                i = next;
+            }
+            Item::Stop(n, next) => {
+                return refused(n, check_from(text, table, next));
+            }
+            Item::Wrong(p) => {
+                return Reading::Wrong(p);
+            }
+            Item::End => {
+                return Reading::Read(words, settings);
+            }
+        }
+    }
+}
+
+// A prepared line, stored likewise.
+fn read_text(
+    text: &[u8],
+    table: &[i64],
+    letters: &mut [u8; 128],
+    values: &mut [i64; 128],
+    numbers: &mut [usize; 64],
+    amounts: &mut [i64; 64],
+) -> Reading
+    requires { ⌜ length (now text) ≤ 256 ⌝ }
+    ensures { λ r. ⌜ (r ≡ answered (lineP (pass (now (table .entry))) (now (text .entry)))) × (spaces (now (letters .exit)) (now (values .exit)) (now (numbers .exit)) (now (amounts .exit)) ≡ stored (gathered (guarded (now (table .entry))) (now (text .entry))) (spaces (now (letters .entry)) (now (values .entry)) (now (numbers .entry)) (now (amounts .entry)))) ⌝ }
+{
+    match label_end(text, slash_end(text)) {
+        Spelt::To(p) => gather(text, table, p, letters, values, numbers, amounts),
+        Spelt::Not(p) => Reading::Wrong(p),
+    }
+}
+
+// Reads a line: its words' letters and values, and its settings' parameter numbers and values, are
+// stored from the front of the lent spaces, in order. Values are worked out from the table as it is.
+pub fn read(
+    line: &[u8],
+    table: &[i64],
+    letters: &mut [u8; 128],
+    values: &mut [i64; 128],
+    numbers: &mut [usize; 64],
+    amounts: &mut [i64; 64],
+) -> Reading
+    ensures { λ r. ⌜ Reads (now (line .entry)) (now (table .entry)) (spaces (now (letters .entry)) (now (values .entry)) (now (numbers .entry)) (now (amounts .entry))) r (spaces (now (letters .exit)) (now (values .exit)) (now (numbers .exit)) (now (amounts .exit))) ⌝ }
+{
+    let mut text = [0u8; 256];
+    match prepare(line, &mut text) {
+        Prepared::Bytes(n) => read_text(&text[..n], table, letters, values, numbers, amounts),
+        Prepared::TooLong => Reading::TooLong,
+    }
+}
+
+// The form of a prepared line. Values are worked out on the way, so a table is lent; what is in it makes
+// no difference.
+fn check_text(text: &[u8], table: &[i64]) -> Checked
+    ensures { λ r. ⌜ r ≡ checked (lineP (pass (now (table .entry))) (now (text .entry))) ⌝ }
+{
+    match label_end(text, slash_end(text)) {
+        Spelt::To(p) => check_from(text, table, p),
+        Spelt::Not(p) => Checked::Wrong(p),
+    }
+}
+
+// The form check: 0 for a right form, 2 for more than 256 bytes, 3 for a wrong form.
+pub fn form(line: &[u8]) -> u8
+    ensures { λ r. ⌜ ByForm (now (line .entry)) (panel (now (line .entry))) r ⌝ }
+{
+    let mut text = [0u8; 256];
+    let table = [0i64; 1];
+    match prepare(line, &mut text) {
+        Prepared::Bytes(n) => match check_text(&text[..n], &table) {
+            Checked::Right => 0,
+            Checked::Wrong(_) => 3,
+        },
+        Prepared::TooLong => 2,
+    }
+}
