@@ -1,0 +1,11 @@
+use mathlib.Core.Path.{refl}
+use lib.Dec.{eqb}
+use mathlib.Core.Bool.{or-false}
+use Rattle.block.proofs.checks.by_line.Statement.{statement}
+use Rattle.block.proofs.checks.by_line.Tie as tie
+
+returns : tie.Need-returns
+returns c = rw (or-false (eqb (c .args .motion) 10)) refl
+
+pub by-line-spec : {M : Type 1} → statement M
+by-line-spec = tie.close (tie.spec returns)

@@ -1,0 +1,27 @@
+use mathlib.Core.Path.{refl, sym, _∙_}
+use borrow.Author.Needs.{needs}
+use Rattle.block.proofs.checks.early.Statement.{statement}
+use Rattle.block.proofs.checks.early.Tie as tie
+
+missing-requires : tie.Need-missing-requires
+missing-requires c κs = search needs
+
+idle-requires : tie.Need-idle-requires
+idle-requires c κs = search needs
+
+returns : tie.Need-returns
+returns c = rw (← c .before .before .missing .ensures, ← c .before .idle .ensures, c .if1 .taken) refl
+
+wrong-word-requires : tie.Need-wrong-word-requires
+wrong-word-requires c κs = search needs
+
+returns-2 : tie.Need-returns-2
+returns-2 c = rw (← c .before .before .before .before .missing .ensures, ← c .before .before .before .idle .ensures, c .before .before .if1 .left, sym (c .before .wrong-word .ensures) ∙ c .if2 .taken) refl
+
+returns-3 : tie.Need-returns-3
+returns-3 c = rw (← c .before .before .before .before .missing .ensures, ← c .before .before .before .idle .ensures, c .before .before .if1 .left, sym (c .before .wrong-word .ensures) ∙ c .if2 .left) refl
+
+pub early-spec : {M : Type 1} → statement M
+early-spec =
+    tie.close
+    (tie.spec missing-requires idle-requires returns wrong-word-requires returns-2 returns-3)

@@ -1,0 +1,46 @@
+use native.Mathlib.Omega.{arith}
+use mathlib.Core.Path.{_≡_, refl, sym, _∙_}
+use Rattle.laws.proofs.Ints.{back}
+use mir.Syntax.{w64}
+use mir.ValLaws.{toZ-pos}
+use Rattle.block.proofs.Tests.{outside-is}
+use borrow.Author.Needs.{needs}
+use Rattle.block.proofs.checks.outside.Statement.{statement}
+use Rattle.block.proofs.checks.outside.Tie as tie
+
+whole-requires : tie.Need-whole-requires
+whole-requires c κs = search needs
+
+enum-known-n : tie.Need-enum-known-n
+enum-known-n c = search needs
+
+cast-result : tie.Need-cast-result
+cast-result c = search needs
+
+cast-result-2 : tie.Need-cast-result-2
+cast-result-2 c = search needs
+
+enum-told : tie.Need-enum-told
+enum-told c = search needs
+
+returns : tie.Need-returns
+returns c = let n = c .before .n .given .0 .0 in rw (back n (record { sfits = c .known-told .given .0 .1 }), toZ-pos w64 (c .before .before .before .before .before .args .low) (omega arith), toZ-pos w64 (c .before .before .before .before .before .args .high) (omega arith), c .before .before .before .before .if1 .taken, sym (c .before .before .before .whole .ensures) ∙ c .before .n .given .1) (outside-is (c .before .before .before .before .before .args .low) (c .before .before .before .before .before .args .high) n)
+
+returns-2 : tie.Need-returns-2
+returns-2 c = rw (c .before .before .before .if1 .taken, sym (c .before .before .whole .ensures) ∙ c .enum-told .given .1) refl
+
+returns-3 : tie.Need-returns-3
+returns-3 c = rw (c .if1 .left) refl
+
+pub outside-spec : {M : Type 1} → statement M
+outside-spec =
+    tie.close
+    (tie.spec
+    whole-requires
+    enum-known-n
+    cast-result
+    cast-result-2
+    enum-told
+    returns
+    returns-2
+    returns-3)

@@ -1,0 +1,5 @@
+pub mod Held
+pub mod Bounds
+pub mod Judged
+pub mod Laying
+pub mod Execution

@@ -1,0 +1,208 @@
+-- Whoever works a line from what the reader leaves keeps the promise.
+-- Assumes nothing.
+use mathlib.Core.Path.{_≡_, refl, ap, _∙_, sym, subst}
+use mathlib.Core.Bool.{Bool, true, false, cond, not, _&&_, _||_}
+use mathlib.Core.List.{List, [], _∷_, _++_, map}
+use mathlib.Core.Option.{Option, none, some}
+use Prim.Native.Nat.{ℕ, zero, suc, _+_, _≤_, _<_}
+use native.Mathlib.Omega.{arith}
+use lib.Dec.{T, eqb, ltb, eqb→eq, T-not}
+use lib.ListN.{length, take, drop, replicate}
+use lib.Seq.{sets, sets-eq, take-append-seam}
+use lib.IntN.{ℤ, pos}
+use borrow.Author.Tests.{le-ltb, lt-ltb, ne-eqb}
+use Rattle.laws.proofs.Bools.{T-eq, not-eq}
+use Rattle.grammar.specs.Grammar.{Line, line as lineOf, letter}
+use Rattle.grammar.specs.Derivation.{Derives}
+use Rattle.grammar.specs.Working.{Took, end, stopped, took, lineEntries}
+use Rattle.grammar.proofs.Lengths.{few}
+use Rattle.rules.specs.Numbers.{inRange}
+use Rattle.rules.specs.Meaning.{Entry, wordIs, settingIs, Said, Setting, arithmetic, reading, stoppedBy, words, settings}
+use Rattle.rules.specs.Block.{blockOf}
+use Rattle.rules.specs.Reach.{inOrder}
+use Rattle.rules.specs.Steps.{ready}
+use Rattle.rules.specs.Refusals.{Case, _when_, first, refusals}
+use Rattle.rules.specs.Promise.{After, Right, after, answer, answerTo, leaving, byNumber, disorder, slashed}
+use Rattle.rules.proofs.Demands.{lacking}
+use Rattle.rules.specs.declared.Block.{Block}
+use Rattle.rules.specs.declared.Record.{Record}
+use Rattle.rules.specs.declared.Outcome.{Outcome}
+use Rattle.rules.specs.declared.Answer.the-variants.{Refused, Skipped}
+use Rattle.reader.specs.Reading.{Spaces, spaces, stored, stopOf, outcome, Left, left, leaves, Reads}
+use Rattle.reader.specs.declared.line.Reading.{Reading}
+use Rattle.reader.specs.declared.line.Reading.the-variants.{Read}
+use Rattle.block.specs.Held.{said}
+use Rattle.block.specs.Execution.{allLettered, allRanged, unread, Done, done, doneBy, executed, execution}
+use Rattle.control.specs.Worked.{settingsOf, tableAfter, finished, workedBy, worked}
+use Rattle.rules.proofs.Sound.{SoundTook, entries-sound}
+use Rattle.control.proofs.Words.{entries-lettered, entries-counted}
+
+-- ---- what was stored is read back
+module _ {A : Type 0} where
+  front : (xs l : List A) → length xs ≤ length l → take (length xs) (sets l 0 xs) ≡ xs
+  front xs l h = rw (sets-eq xs l 0 (omega arith)) (take-append-seam xs (drop (0 + length xs) l))
+
+length-map : {A B : Type 0} (g : A → B) (xs : List A) → length (map g xs) ≡ length xs
+length-map g [] = refl
+length-map g (x ∷ xs) = ap suc (length-map g xs)
+
+said-back : (ws : List Said) → said (map (λ (x : Said). x .letter) ws) (map (λ (x : Said). x .value) ws) ≡ ws
+said-back [] = refl
+said-back (w ∷ ws) = ap (λ (l : List Said). w ∷ l) (said-back ws)
+
+settings-back : (ss : List Setting) → settingsOf (map (λ (x : Setting). x .number) ss) (map (λ (x : Setting). x .value) ss) ≡ ss
+settings-back [] = refl
+settings-back (s ∷ ss) = ap (λ (l : List Setting). s ∷ l) (settings-back ss)
+
+-- ---- a derivation's words are words that a line gives
+in-range : (e : Took Entry) → SoundTook e → allRanged (words e) ≡ true
+in-range end s = refl
+in-range (stopped n) s = refl
+in-range (took (wordIs b v) t) s = rw (s .0, in-range t (s .1))
+in-range (took (settingIs n v) t) s = in-range t s
+
+fit : (e : Took Entry) → allLettered (words e) ≡ true → SoundTook e → length (words e) ≤ 128 → unread (words e) ≡ 0
+unfolding unread
+fit e l s h = rw (le-ltb 128 (length (words e)) h, l, in-range e s)
+
+-- ---- where reading stopped
+stop-is : (e : Took Entry) (k : ℕ) → stopOf e ≡ some k → stoppedBy e ≡ k
+stop-is end k h = absurd (let z : _≡_ {A = ℕ} 0 1 = cc in omega arith)
+stop-is (stopped n) k h = cc
+stop-is (took e t) k h = stop-is t k h
+
+stop-none : (e : Took Entry) → stopOf e ≡ none → stoppedBy e ≡ 0
+stop-none end h = refl
+stop-none (stopped n) h = absurd (let z : _≡_ {A = ℕ} 0 1 = cc in omega arith)
+stop-none (took e t) h = stop-none t h
+
+stop-sound : (e : Took Entry) → SoundTook e → (k : ℕ) → stopOf e ≡ some k → (4 ≤ k) × (k ≤ 7)
+stop-sound end s k h = absurd (let z : _≡_ {A = ℕ} 0 1 = cc in omega arith)
+stop-sound (stopped n) s k h = let e : n ≡ k = cc in rw e at s
+stop-sound (took (wordIs b v) t) s k h = stop-sound t (s .1) k h
+stop-sound (took (settingIs n v) t) s k h = stop-sound t s k h
+
+-- ---- the numbers 8 to 15
+finished-by : (n : ℕ) (e : Took Entry) (b : Block) (r : Record) (table out : List ℤ) → (n ≡ 100 → ⊥) → finished (doneBy n b r out) (settings e) table ≡ byNumber n e b r table out
+finished-by n e b r table out h = rw (ne-eqb n 100 h) (go (eqb n 0))
+  where
+    go : (c : Bool) → finished (cond c (doneBy 0 b r out) (done (Refused n) r out)) (settings e) table ≡ cond c (byNumber 0 e b r table out) (leaving (Refused n) r table out)
+    go true = refl
+    go false = refl
+
+-- the numbers 4 to 7
+stopped-by : (k : ℕ) → 4 ≤ k → k ≤ 7 → (cs : List Case) (e : Took Entry) (b : Block) (r : Record) (table out : List ℤ) →
+    byNumber (first ((4 when eqb k 4) ∷ (5 when eqb k 5) ∷ (6 when eqb k 6) ∷ (7 when eqb k 7) ∷ cs)) e b r table out ≡ leaving (Refused k) r table out
+stopped-by zero l h cs e b r table out = absurd (omega arith)
+stopped-by (suc zero) l h cs e b r table out = absurd (omega arith)
+stopped-by (suc (suc zero)) l h cs e b r table out = absurd (omega arith)
+stopped-by (suc (suc (suc zero))) l h cs e b r table out = absurd (omega arith)
+stopped-by (suc (suc (suc (suc zero)))) l h cs e b r table out = refl
+stopped-by (suc (suc (suc (suc (suc zero))))) l h cs e b r table out = refl
+stopped-by (suc (suc (suc (suc (suc (suc zero)))))) l h cs e b r table out = refl
+stopped-by (suc (suc (suc (suc (suc (suc (suc zero))))))) l h cs e b r table out = refl
+stopped-by (suc (suc (suc (suc (suc (suc (suc (suc k)))))))) l h cs e b r table out = absurd (omega arith)
+
+not-disorder : (x y : Bool) → (not x || not y) ≡ false → y ≡ true
+not-disorder true true h = refl
+not-disorder true false h = sym h
+not-disorder false y h = absurd (subst T h tt)
+
+-- ---- the numbers before the form is read
+module _ (line : List ℕ) (switch : Bool) (r : Record) (table out : List ℤ) where
+  by-early : {x : After} → ((e : Option (Took Entry)) → answerTo e line switch r table out ≡ x) → Right line switch r table out x
+  by-early h = record { byTree = λ t d. sym (h (reading table (some t))); byNone = λ _. sym (h none) }
+
+  pub kept-1 : {o : Outcome} → disorder r table ≡ true → o ≡ record { answer = Refused 1; rec = r } → Right line switch r table out (after o table out)
+  unfolding answerTo
+  kept-1 d h = rw h (by-early (λ e. rw d))
+
+  pub kept-2 : {o : Outcome} → disorder r table ≡ false → 256 < length line → o ≡ record { answer = Refused 2; rec = r } → Right line switch r table out (after o table out)
+  unfolding answerTo
+  kept-2 d l h = rw h (by-early (λ e. rw (d, lt-ltb 256 (length line) l)))
+
+  pub kept-skipped : disorder r table ≡ false → length line ≤ 256 → (switch && slashed line) ≡ true → Right line switch r table out (leaving Skipped r table out)
+  unfolding answerTo
+  kept-skipped d l s = by-early (λ e. rw (d, le-ltb 256 (length line) l, s))
+
+module _ (line : List ℕ) (switch : Bool) (r : Record) (table out : List ℤ) (ordered : disorder r table ≡ false) (short : length line ≤ 256) (unskipped : (switch && slashed line) ≡ false) where
+  in-order : inOrder r ≡ true
+  unfolding disorder
+  in-order = not-disorder (eqb (length table) 5000) (inOrder r) ordered
+
+  -- a line without a derivation
+  underived-answer : answerTo none line switch r table out ≡ leaving (Refused 3) r table out
+  unfolding answerTo
+  underived-answer = rw (ordered, le-ltb 256 (length line) short, unskipped)
+
+  -- a reading that was stopped
+  stopped-answer : (e : Took Entry) → SoundTook e → (k : ℕ) → stopOf e ≡ some k → answerTo (some e) line switch r table out ≡ leaving (Refused k) r table out
+  unfolding answerTo
+  stopped-answer e s k h =
+      let b = blockOf (words e) in
+      let n = stop-sound e s k h in
+      rw (ordered, le-ltb 256 (length line) short, unskipped, stop-is e k h) (stopped-by k (n .0) (n .1) (refusals (words e) b (ready b r) (length out)) e b r table out)
+
+  -- a reading that came to the line's end
+  whole-answer : (e : Took Entry) → allLettered (words e) ≡ true → SoundTook e → length (words e) ≤ 128 → stopOf e ≡ none → answerTo (some e) line switch r table out ≡ finished (execution (words e) r out) (settings e) table
+  unfolding answerTo execution executed
+  whole-answer e l s few h =
+      let b = blockOf (words e) in
+      let cs = refusals (words e) b (ready b r) (length out) in
+      rw (ordered, le-ltb 256 (length line) short, unskipped, stop-none e h, in-order, fit e l s few)
+      (sym (finished-by (first cs) e b r table out (λ q. lacking 100 cs tt q)))
+
+  module _ (old : Spaces) (roomWords : length (old .letters) ≡ 128) (roomValues : length (old .values) ≡ 128) (roomNumbers : length (old .numbers) ≡ 64) (roomAmounts : length (old .amounts) ≡ 64) where
+    -- what was stored of a whole reading is worked as the reading itself
+    stored-answer : (e : Took Entry) → length (words e) ≤ 128 → length (settings e) ≤ 64 → stopOf e ≡ none →
+        workedBy (outcome e) (stored e old) r table out ≡ finished (execution (words e) r out) (settings e) table
+    stored-answer e w n h =
+        let ws = words e in
+        let ss = settings e in
+        let a : take (length ws) (stored e old .letters) ≡ map (λ (x : Said). x .letter) ws = rw (← length-map (λ (x : Said). x .letter) ws) (front (map (λ (x : Said). x .letter) ws) (old .letters) (omega (arith, length-map (λ (x : Said). x .letter) ws))) in
+        let b : take (length ws) (stored e old .values) ≡ map (λ (x : Said). x .value) ws = rw (← length-map (λ (x : Said). x .value) ws) (front (map (λ (x : Said). x .value) ws) (old .values) (omega (arith, length-map (λ (x : Said). x .value) ws))) in
+        let c : take (length ss) (stored e old .numbers) ≡ map (λ (x : Setting). x .number) ss = rw (← length-map (λ (x : Setting). x .number) ss) (front (map (λ (x : Setting). x .number) ss) (old .numbers) (omega (arith, length-map (λ (x : Setting). x .number) ss))) in
+        let d : take (length ss) (stored e old .amounts) ≡ map (λ (x : Setting). x .value) ss = rw (← length-map (λ (x : Setting). x .value) ss) (front (map (λ (x : Setting). x .value) ss) (old .amounts) (omega (arith, length-map (λ (x : Setting). x .value) ss))) in
+        rw (h, a, b, c, d, said-back ws, settings-back ss)
+
+    tree-answer : (t : Line) → Derives t line → worked (leaves line table old (some t)) r table out ≡ answer (some t) line switch r table out
+    unfolding worked leaves
+    tree-answer (lineOf sl n is) d =
+        let e = lineEntries (arithmetic table) (lineOf sl n is) in
+        let l : allLettered (words e) ≡ true = entries-lettered table is (d .ok .1) in
+        let s : SoundTook e = entries-sound table is in
+        let c = entries-counted table is in
+        let k = few d short in
+        rw (le-ltb 256 (length line) short) (go e l s (omega (arith, c .fewWords, k .0)) (omega (arith, c .fewSettings, k .1)) (stopOf e) refl)
+      where
+        go : (e : Took Entry) → allLettered (words e) ≡ true → SoundTook e → length (words e) ≤ 128 → length (settings e) ≤ 64 → (o : Option ℕ) → stopOf e ≡ o → workedBy (outcome e) (stored e old) r table out ≡ answerTo (some e) line switch r table out
+        go e l s w n none h = stored-answer e w n h ∙ sym (whole-answer e l s w h)
+        go e l s w n (some k) h = rw h (sym (stopped-answer e s k h))
+
+    none-answer : worked (leaves line table old none) r table out ≡ answer none line switch r table out
+    unfolding worked leaves
+    none-answer = rw (le-ltb 256 (length line) short) (sym underived-answer)
+
+    -- the promise, from any result that is worked from what the reader left
+    kept : {a : Reading} {lent : Spaces} → Reads line table old a lent → {x : After} → x ≡ workedBy a lent r table out → Right line switch r table out x
+    unfolding worked
+    kept {a} {lent} p e = record {
+      byTree = λ t d. e ∙ ap (λ (l : Left). worked l r table out) (p .byTree t d) ∙ tree-answer t d;
+      byNone = λ h. e ∙ ap (λ (l : Left). worked l r table out) (p .byNone h) ∙ none-answer;
+    }
+
+    -- read to its end, and worked
+    pub kept-read : {w n : ℕ} {lent : Spaces} → Reads line table old (Read w n) lent → {o : Outcome} {table′ out′ : List ℤ} →
+        record { outcome = o; out = out′ } ≡ execution (said (take w (lent .letters)) (take w (lent .values))) r out →
+        table′ ≡ tableAfter (o .answer) (settingsOf (take n (lent .numbers)) (take n (lent .amounts))) table → Right line switch r table out (after o table′ out′)
+    kept-read {w} {n} {lent} p {o} {table′} {out′} e h =
+        kept p (ap (λ (t : List ℤ). after o t out′) h ∙ ap (λ (d : Done). finished d (settingsOf (take n (lent .numbers)) (take n (lent .amounts))) table) e)
+
+    -- refused by what was read
+    pub kept-refused : {a : Reading} {lent : Spaces} → Reads line table old a lent → (k : ℕ) → workedBy a lent r table out ≡ leaving (Refused k) r table out → {o : Outcome} →
+        o ≡ record { answer = Refused k; rec = r } → Right line switch r table out (after o table out)
+    kept-refused p k w h = kept p (ap (λ (o : Outcome). after o table out) h ∙ sym w)
+
+-- the lent spaces as they are made for each line
+abbrev pub zeros : Spaces
+zeros = spaces (replicate 128 0) (replicate 128 (pos 0)) (replicate 64 0) (replicate 64 (pos 0))

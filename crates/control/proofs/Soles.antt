@@ -1,0 +1,29 @@
+-- Each public function's contract, the promise, allows one result.
+-- Assumes nothing.
+use mathlib.Core.Path.{refl}
+use Rattle.laws.proofs.Sole.{Sole}
+use Rattle.grammar.proofs.ByForm.{by-form-sole}
+use Rattle.control.proofs.interpret as interpret
+use Rattle.control.proofs.step as step
+use Rattle.control.proofs.work as work
+
+pub interpret-sole : Sole interpret.ended (λ M. interpret.clauses)
+interpret-sole = record {
+  says = _;
+  is = λ M 𝓤 H A mem run κs a ghost r e. refl;
+  one = λ κs a r r′ ws ws′ p q. let e = by-form-sole p q in (λ i. e i .outcome, λ i. (tt, (tt, (tt, (e i .table, (e i .out, tt))))));
+}
+
+pub step-sole : Sole step.ended (λ M. step.clauses)
+step-sole = record {
+  says = _;
+  is = λ M 𝓤 H A mem run κs a ghost r e. refl;
+  one = λ κs a r r′ ws ws′ p q. let e = by-form-sole p q in (λ i. e i .outcome .answer, λ i. (tt, (tt, (e i .outcome .rec, (e i .table, (e i .out, tt))))));
+}
+
+pub work-sole : Sole work.ended (λ M. work.clauses)
+work-sole = record {
+  says = _;
+  is = λ M 𝓤 H A mem run κs a ghost r e. refl;
+  one = λ κs a r r′ ws ws′ p q. let e = by-form-sole p q in (λ i. e i .outcome, λ i. (tt, (tt, (tt, (e i .table, (e i .out, tt))))));
+}

@@ -1,0 +1,42 @@
+-- What is left of a line from what reading it left: settings are applied only where the line is accepted.
+-- Assumes nothing.
+use mathlib.Core.List.{List, [], _∷_}
+use Prim.Native.Nat.{ℕ}
+use lib.IntN.{ℤ}
+use lib.ListN.{take}
+use Rattle.rules.specs.Meaning.{Setting}
+use Rattle.rules.specs.Promise.{After, after, leaving, apply}
+use Rattle.rules.specs.declared.Record.{Record}
+use Rattle.rules.specs.declared.Answer.{Answer}
+use Rattle.rules.specs.declared.Answer.the-variants.{Accepted, Refused, Skipped}
+use Rattle.reader.specs.Reading.{Spaces, Left}
+use Rattle.reader.specs.declared.line.Reading.{Reading}
+use Rattle.reader.specs.declared.line.Reading.the-variants.{Read, Stopped, Wrong, TooLong}
+use Rattle.block.specs.Held.{said}
+use Rattle.block.specs.Execution.{Done, execution}
+
+-- settings by their parameter numbers and their values, side by side
+abbrev pub settingsOf : List ℕ → List ℤ → List Setting
+settingsOf [] vs = []
+settingsOf (n ∷ ns) [] = []
+settingsOf (n ∷ ns) (v ∷ vs) = record { number = n; value = v } ∷ settingsOf ns vs
+
+-- "settings apply afterwards", and not for a line that is refused
+abbrev pub tableAfter : Answer → List Setting → List ℤ → List ℤ
+tableAfter (Accepted n) ss table = apply ss table
+tableAfter (Refused n) ss table = table
+tableAfter Skipped ss table = table
+
+abbrev pub finished : Done → List Setting → List ℤ → After
+finished d ss table = after (d .outcome) (tableAfter (d .outcome .answer) ss table) (d .out)
+
+-- by what the reader answers and what the lent spaces hold
+abbrev pub workedBy : Reading → Spaces → Record → List ℤ → List ℤ → After
+workedBy (Read w n) sp r table out =
+    finished (execution (said (take w (sp .letters)) (take w (sp .values))) r out) (settingsOf (take n (sp .numbers)) (take n (sp .amounts))) table
+workedBy (Stopped k) sp r table out = leaving (Refused k) r table out
+workedBy (Wrong p) sp r table out = leaving (Refused 3) r table out
+workedBy TooLong sp r table out = leaving (Refused 2) r table out
+
+unfoldable pub worked : Left → Record → List ℤ → List ℤ → After
+worked l r table out = workedBy (l .answer) (l .lent) r table out

@@ -1,0 +1,214 @@
+// One line at a time: the interpreter, the record lent to each line, and the same with plain parameters.
+ghost use mathlib.Core.Path.{_≡_};
+ghost use mathlib.Core.Bool.{false, _&&_};
+ghost use Prim.Native.Nat.{_≤_};
+ghost use lib.ListN.{length, take, set};
+ghost use Rattle.rules.specs.Promise.{Right, after, leaving, apply, disorder, slashed};
+ghost use Rattle.block.specs.Held.{said};
+ghost use Rattle.block.specs.Execution.{execution};
+ghost use Rattle.rules.specs.declared.Answer.the-variants.{Refused};
+ghost use Rattle.control.specs.Worked.{settingsOf, tableAfter};
+use reader::Reading;
+use rules::Answer;
+use rules::Outcome;
+use rules::Record;
+use rules::Value;
+
+// Works one line. Whatever the line, the record, the table and the output space are, what is left
+// is what the rules say.
+pub fn interpret(
+    line: &[u8],
+    switch: bool,
+    rec: Record,
+    table: &mut [i64],
+    out: &mut [i64],
+) -> Outcome
+    ensures { λ r. ⌜ Right (now (line .entry)) switch rec (now (table .entry)) (now (out .entry)) (after r (now (table .exit)) (now (out .exit))) ⌝ }
+{
+    if out_of_order(rec, table) {
+        return refused(1, rec);
+    }
+    if 256 < line.len() {
+        return refused(2, rec);
+    }
+    if skips(line, switch) {
+        return Outcome {
+            answer: Answer::Skipped,
+            rec: rec,
+        };
+    }
+    read_and_work(line, switch, rec, table, out)
+}
+
+fn refused(number: u8, rec: Record) -> Outcome
+    ensures { λ r. ⌜ r ≡ record { answer = Refused number; rec = rec } ⌝ }
+{
+    Outcome {
+        answer: Answer::Refused(number),
+        rec: rec,
+    }
+}
+
+// Number 1: the table has not 5,000 entries, or a field of the record is outside its range.
+fn out_of_order(rec: Record, table: &[i64]) -> bool
+    ensures { λ r. ⌜ r ≡ disorder rec (now (table .entry)) ⌝ }
+{
+    if table.len() == 5000 {
+        if record::in_order(rec) {
+            return false;
+        }
+        return true;
+    }
+    true
+}
+
+// With the switch on, a line whose first byte that is no blank is `/`.
+fn skips(line: &[u8], switch: bool) -> bool
+    ensures { λ r. ⌜ r ≡ (switch && slashed (now (line .entry))) ⌝ }
+{
+    if switch {
+        return slashed(line);
+    }
+    false
+}
+
+fn slashed(line: &[u8]) -> bool
+    ensures { λ r. ⌜ r ≡ slashed (now (line .entry)) ⌝ }
+{
+    let mut i = 0;
+    while i < line.len() {
+        match line[i] {
+            b' ' | b'\t' => {}
+            b => return b == b'/',
+        }
+        i += 1;
+    }
+    false
+}
+
+// A line that is neither 1, 2 nor skipped: what is read of it decides.
+fn read_and_work(
+    line: &[u8],
+    switch: bool,
+    rec: Record,
+    table: &mut [i64],
+    out: &mut [i64],
+) -> Outcome
+    requires { ⌜ (disorder rec (now table) ≡ false) × (length (now line) ≤ 256) × ((switch && slashed (now line)) ≡ false) ⌝ }
+    ensures { λ r. ⌜ Right (now (line .entry)) switch rec (now (table .entry)) (now (out .entry)) (after r (now (table .exit)) (now (out .exit))) ⌝ }
+{
+    let mut letters = [0u8; 128];
+    let mut values = [0i64; 128];
+    let mut numbers = [0usize; 64];
+    let mut amounts = [0i64; 64];
+    match reader::read(
+        line,
+        table,
+        &mut letters,
+        &mut values,
+        &mut numbers,
+        &mut amounts,
+    ) {
+        Reading::Read(words, settings) => finish(
+            &letters,
+            &values,
+            words,
+            &numbers,
+            &amounts,
+            settings,
+            rec,
+            table,
+            out,
+        ),
+        Reading::Stopped(number) => refused(number, rec),
+        Reading::Wrong(_) => refused(3, rec),
+        Reading::TooLong => refused(2, rec),
+    }
+}
+
+// A line that is read: its words are worked, and where it is accepted its settings are applied.
+fn finish(
+    letters: &[u8; 128],
+    values: &[i64; 128],
+    words: usize,
+    numbers: &[usize; 64],
+    amounts: &[i64; 64],
+    settings: usize,
+    rec: Record,
+    table: &mut [i64],
+    out: &mut [i64],
+) -> Outcome
+    ensures { λ r. ⌜ (record { outcome = r; out = now (out .exit) } ≡ execution (said (take words (now (letters .entry))) (take words (now (values .entry)))) rec (now (out .entry))) × (now (table .exit) ≡ tableAfter (r .answer) (settingsOf (take settings (now (numbers .entry))) (take settings (now (amounts .entry)))) (now (table .entry))) ⌝ }
+{
+    let outcome = block::execute(letters, values, words, rec, out);
+    let answer = outcome.answer;
+    set_entries(answer, numbers, amounts, settings, table);
+    outcome
+}
+
+// Applies the settings, in order, where the line is accepted.
+fn set_entries(answer: Answer, numbers: &[usize], amounts: &[i64], count: usize, table: &mut [i64])
+    ensures { λ r. ⌜ now (table .exit) ≡ tableAfter answer (settingsOf (take count (now (numbers .entry))) (take count (now (amounts .entry)))) (now (table .entry)) ⌝ }
+{
+    match answer {
+        Answer::Accepted(_) => set_all(numbers, amounts, count, table),
+        Answer::Refused(_) => {}
+        Answer::Skipped => {}
+    }
+}
+
+fn set_all(numbers: &[usize], amounts: &[i64], count: usize, table: &mut [i64])
+    ensures { λ r. ⌜ now (table .exit) ≡ apply (settingsOf (take count (now (numbers .entry))) (take count (now (amounts .entry)))) (now (table .entry)) ⌝ }
+{
+    let mut i = 0;
+    while i < count {
+        if numbers.len() <= i {
+            return;
+        }
+        if amounts.len() <= i {
+            return;
+        }
+        set_entry(numbers[i], Value(amounts[i]), table);
+        i += 1;
+    }
+}
+
+// A number that the table does not reach sets nothing.
+fn set_entry(number: usize, amount: Value, table: &mut [i64])
+    ensures { λ r. ⌜ now (table .exit) ≡ set (now (table .entry)) number (amount .0) ⌝ }
+{
+    if table.len() <= number {
+        return;
+    }
+    let v = amount.0;
+    table[number] = v;
+}
+
+// The session's record is lent to each line.
+pub fn step(
+    line: &[u8],
+    switch: bool,
+    rec: &mut Record,
+    table: &mut [i64],
+    out: &mut [i64],
+) -> Answer
+    ensures { λ r. ⌜ Right (now (line .entry)) switch (now (rec .entry)) (now (table .entry)) (now (out .entry)) (leaving r (now (rec .exit)) (now (table .exit)) (now (out .exit))) ⌝ }
+{
+    let got = interpret(line, switch, *rec, table, out);
+    *rec = got.rec;
+    got.answer
+}
+
+// The same with plain parameters, over a record of its own that it lends to `step`: programs need no more.
+pub fn work(
+    line: &[u8],
+    switch: bool,
+    mut rec: Record,
+    table: &mut [i64],
+    out: &mut [i64],
+) -> Outcome
+    ensures { λ r. ⌜ Right (now (line .entry)) switch rec (now (table .entry)) (now (out .entry)) (after r (now (table .exit)) (now (out .exit))) ⌝ }
+{
+    let answer = step(line, switch, &mut rec, table, out);
+    Outcome { answer, rec }
+}
