@@ -1,0 +1,77 @@
+-- `frames::answer_frames` meets its contract, case by case of the answer.
+-- Assumes nothing.
+use mathlib.Core.Path.{sym, ap, _∙_}
+use borrow.Author.Needs.{needs}
+use Rattle.rules.specs.declared.Answer.{Answer}
+use Rattle.frames.specs.Text.{answerFrames}
+use Rattle.frames.proofs.Command.{for-accepted, for-refused, for-skipped, put-alike}
+use Rattle.frames.proofs.answer_frames.Statement.{statement}
+use Rattle.frames.proofs.answer_frames.Tie as tie
+
+enum-known-answer : tie.Need-enum-known-answer
+enum-known-answer c = search needs
+
+accepted-requires : tie.Need-accepted-requires
+accepted-requires c κs = search needs
+
+enum-known-answer-2 : tie.Need-enum-known-answer-2
+enum-known-answer-2 c = search needs
+
+refusal-requires : tie.Need-refusal-requires
+refusal-requires c κs = search needs
+
+enum-told : tie.Need-enum-told
+enum-told c = search needs
+
+accepted-requires-2 : tie.Need-accepted-requires-2
+accepted-requires-2 c κs = search needs
+
+same-length : tie.Need-same-length
+same-length c = search needs
+
+returns : tie.Need-returns
+returns c =
+    let put = c .before .before in
+    let known = put .before .before .before .answer .given in
+    let start = put .before .before .before .before .before .before .args in
+    let out = start .out .now in
+    put-alike (start .text .now) (start .at) (for-accepted out (known .0 .0) ∙ ap (λ (a : Answer). answerFrames a out) (sym (known .1))) (put .accepted .ensures)
+
+same-length-2 : tie.Need-same-length-2
+same-length-2 c = search needs
+
+returns-2 : tie.Need-returns-2
+returns-2 c =
+    let put = c .before .before in
+    let known = put .before .before .before .answer2 .given in
+    let start = put .before .before .before .before .before .before .args in
+    let out = start .out .now in
+    put-alike (start .text .now) (start .at) (for-refused out (known .0 .0) ∙ ap (λ (a : Answer). answerFrames a out) (sym (known .1))) (put .refusal .ensures)
+
+same-length-3 : tie.Need-same-length-3
+same-length-3 c = search needs
+
+returns-3 : tie.Need-returns-3
+returns-3 c =
+    let put = c .before .before in
+    let known = put .before .before .enum-told .given in
+    let start = put .before .before .before .before .before .args in
+    let out = start .out .now in
+    put-alike (start .text .now) (start .at) (for-skipped out ∙ ap (λ (a : Answer). answerFrames a out) (sym (known .1))) (put .accepted2 .ensures)
+
+pub answer-frames-spec : {M : Type 1} → statement M
+answer-frames-spec =
+    tie.close
+    (tie.spec
+    enum-known-answer
+    accepted-requires
+    enum-known-answer-2
+    refusal-requires
+    enum-told
+    accepted-requires-2
+    same-length
+    returns
+    same-length-2
+    returns-2
+    same-length-3
+    returns-3)

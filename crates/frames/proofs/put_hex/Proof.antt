@@ -1,0 +1,66 @@
+-- `frames::put_hex` meets its contract: what the text will be in the end stays the same from digit to digit.
+-- Assumes nothing.
+use mathlib.Core.Path.{_≡_, refl, ap, sym, _∙_}
+use Prim.Native.Nat.{ℕ, _≤_}
+use native.Mathlib.Omega.{arith}
+use lib.Seq.{sets}
+use lib.ListN.{length, length-set}
+use Rattle.rules.specs.Frames.{hex}
+use Rattle.frames.proofs.Digits.{digit-put}
+use Rattle.frames.proofs.put_hex.Statement.{statement}
+use Rattle.frames.proofs.put_hex.Tie as tie
+
+abbrev Inv-loop : tie.InvT-loop
+Inv-loop number digits text₀ at rest₀ left₀ text rest left = (left ≤ digits) × (length text ≡ length text₀) × (sets text at (hex left rest) ≡ sets text₀ at (hex digits number))
+
+abbrev μ-loop : tie.MeasureT-loop
+μ-loop number digits text₀ at rest₀ left₀ text rest left = left
+
+loop-holds : tie.Need-loop-holds Inv-loop μ-loop
+loop-holds c = (omega arith, refl, refl)
+
+sub-left : tie.Need-sub-left Inv-loop μ-loop
+sub-left c = omega arith
+
+hex-digit-requires : tie.Need-hex-digit-requires Inv-loop μ-loop
+hex-digit-requires c κs = omega arith
+
+add-text : tie.Need-add-text Inv-loop μ-loop
+add-text c = omega arith
+
+slice-write-text : tie.Need-slice-write-text Inv-loop μ-loop
+slice-write-text c = omega arith
+
+loop-less : tie.Need-loop-less Inv-loop μ-loop
+loop-less c = omega arith
+
+loop-again : tie.Need-loop-again Inv-loop μ-loop
+loop-again c =
+    let loop = c .before .before in
+    let at = loop .before .before .args .at in
+    (omega arith, simp length-set (omega arith), digit-put (loop .loop .text) at (loop .loop .left) (loop .loop .rest) (omega arith) (c .hex-digit .ensures) ∙ loop .loop .inv .2)
+
+same-length : tie.Need-same-length Inv-loop μ-loop
+same-length c = omega arith
+
+returns : tie.Need-returns Inv-loop μ-loop
+returns c =
+    let loop = c .before in
+    let last : loop .loop .left ≡ 0 = omega arith in
+    ap (λ (k : ℕ). sets (loop .loop .text) (loop .before .before .args .at) (hex k (loop .loop .rest))) (sym last) ∙ loop .loop .inv .2
+
+pub put-hex-spec : {M : Type 1} → statement M
+put-hex-spec =
+    tie.close
+    (tie.spec
+    Inv-loop
+    μ-loop
+    loop-holds
+    sub-left
+    hex-digit-requires
+    add-text
+    slice-write-text
+    loop-less
+    loop-again
+    same-length
+    returns)

@@ -1,0 +1,52 @@
+-- `frames::put_refusal` meets its contract: FF, ten digits and a line feed, one after the other.
+-- Assumes nothing.
+use mathlib.Core.Path.{_≡_, refl, ap, _∙_}
+use Prim.Native.Nat.{ℕ, _+_}
+use native.Mathlib.Omega.{arith}
+use borrow.Author.Needs.{needs}
+use lib.ListN.{set, length-set}
+use Rattle.grammar.specs.Bytes.{byte, bytes}
+use Rattle.rules.specs.Frames.{hex, refusalFrame}
+use Rattle.frames.proofs.Stores.{closed-run}
+use Rattle.frames.proofs.put_refusal.Statement.{statement}
+use Rattle.frames.proofs.put_refusal.Tie as tie
+
+put-hex-requires : tie.Need-put-hex-requires
+put-hex-requires c κs = search needs
+
+add-put-hex : tie.Need-add-put-hex
+add-put-hex c = search needs
+
+put-hex-requires-2 : tie.Need-put-hex-requires-2
+put-hex-requires-2 c κs = search needs
+
+add-text : tie.Need-add-text
+add-text c = search needs
+
+slice-write-text : tie.Need-slice-write-text
+slice-write-text c = search needs
+
+same-length : tie.Need-same-length
+same-length c = simp length-set (search needs)
+
+returns : tie.Need-returns
+unfolding refusalFrame
+returns c =
+    let digits = c .before .before in
+    let letters = digits .before .before .before .before in
+    let start = letters .before .before .before .args in
+    let last : start .at + 12 ≡ start .at + 2 + 10 = omega arith in
+    ap (λ (k : ℕ). set (digits .put-hex2 .last .1 .1 .0) k (byte "\n")) last
+    ∙ closed-run (bytes "FF") (hex 10 (start .number)) (start .text .now) (start .at) (byte "\n") (letters .put-hex .ensures) (digits .put-hex2 .ensures) refl refl
+
+pub put-refusal-spec : {M : Type 1} → statement M
+put-refusal-spec =
+    tie.close
+    (tie.spec
+    put-hex-requires
+    add-put-hex
+    put-hex-requires-2
+    add-text
+    slice-write-text
+    same-length
+    returns)

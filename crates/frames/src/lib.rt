@@ -1,0 +1,259 @@
+// The text of frames, and the lines of a text (document 01, "Frames out").
+ghost use mathlib.Core.Path.{_≡_};
+ghost use Prim.Native.Nat.{_+_, _-_, _*_, _≤_, _<_};
+ghost use mathlib.Core.List.{_++_};
+ghost use mathlib.Core.Option.{some};
+ghost use lib.ListN.{length, take, drop};
+ghost use lib.Seq.{sets};
+ghost use Rattle.grammar.specs.Bytes.{bytes};
+ghost use Rattle.rules.specs.Frames.{hexDigit, hex, complement, fieldsUsed, fields, frame as frameText, framesIn, refusalFrame};
+ghost use Rattle.frames.specs.Text.{frameAt, framesAt, answerFrames, placed, laid};
+ghost use Rattle.frames.specs.Places.{feedFrom, endOf, nextFrom};
+use rules::Answer;
+
+// Where the text goes on after a frame; or that nothing was put, since the command is not all there
+// or the text has no room for the frame.
+pub enum Put {
+    At(usize),
+    Full,
+}
+
+// What stands in a text from a place on: a line, with the place of its end and the place of the next
+// line; or a part of a line, which no line feed ends yet.
+pub enum Next {
+    Line { end: usize, next: usize },
+    Part,
+}
+
+// How many places there are from a place on: none, where it lies past the end.
+fn places_from(length: usize, at: usize) -> usize
+    ensures { λ r. ⌜ r ≡ length - at ⌝ }
+{
+    if length < at {
+        return 0;
+    }
+    length - at
+}
+
+// A hexadecimal digit.
+fn hex_digit(number: u64) -> u8
+    requires { ⌜ number < 16 ⌝ }
+    ensures { λ r. ⌜ r ≡ hexDigit number ⌝ }
+{
+    if number < 10 {
+        b'0' + number as u8
+    } else {
+        b'A' + (number - 10) as u8
+    }
+}
+
+// Puts the last digits of a number from a place on. The last digit comes first out of the number.
+fn put_hex(number: u64, digits: usize, text: &mut [u8], at: usize)
+    requires { ⌜ at + digits ≤ length (now text) ⌝ }
+    ensures { λ _. ⌜ now (text .exit) ≡ sets (now (text .entry)) at (hex digits number) ⌝ }
+{
+    let mut rest = number;
+    let mut left = digits;
+    while left > 0 {
+        left -= 1;
+        text[at + left] = hex_digit(rest % 16);
+        rest /= 16;
+    }
+}
+
+// A number in two's complement, in the forty bits of ten digits. Below zero, -1 - number has the
+// complement of its bits, so that no cast here loses one.
+fn forty_bits(number: i64) -> u64
+    ensures { λ r. ⌜ r ≡ complement number ⌝ }
+{
+    if number < 0 {
+        0xFF_FFFF_FFFF - (-1 - number) as u64 % 0x100_0000_0000
+    } else {
+        number as u64 % 0x100_0000_0000
+    }
+}
+
+// How many fields a kind of command uses.
+fn fields_used(kind: u64) -> usize
+    ensures { λ r. ⌜ (r ≡ fieldsUsed kind) × (r ≤ 7) ⌝ }
+{
+    match kind {
+        4 => 0,
+        8 | 9 => 3,
+        10 => 7,
+        _ => 1,
+    }
+}
+
+// Puts so many fields, which start at a place of the numbers, ten digits each.
+fn put_fields(out: &[i64], first: usize, many: usize, text: &mut [u8], at: usize)
+    requires { ⌜ (first + many ≤ length (now out)) × (at + 10 * many ≤ length (now text)) ⌝ }
+    ensures { λ _. ⌜ now (text .exit) ≡ sets (now (text .entry)) at (fields (take many (drop first (now (out .entry))))) ⌝ }
+{
+    for j in 0..many {
+        put_hex(forty_bits(out[first + j]), 10, text, at + 10 * j);
+    }
+}
+
+// Puts the parts of a frame: the kind, so many fields, a line feed.
+fn put_parts(kind: u64, out: &[i64], first: usize, many: usize, text: &mut [u8], at: usize)
+    requires { ⌜ (first + many ≤ length (now out)) × (at + 3 + 10 * many ≤ length (now text)) ⌝ }
+    ensures { λ _. ⌜ now (text .exit) ≡ sets (now (text .entry)) at (hex 2 kind ++ fields (take many (drop first (now (out .entry)))) ++ bytes "\n") ⌝ }
+{
+    put_hex(kind, 2, text, at);
+    put_fields(out, first, many, text, at + 2);
+    text[at + 2 + 10 * many] = b'\n';
+}
+
+// How long the frame of the command at base is.
+fn frame_size(out: &[i64], base: usize) -> usize
+    requires { ⌜ base + 8 ≤ length (now out) ⌝ }
+    ensures { λ r. ⌜ (r ≡ length (frameText (drop base (now (out .entry))))) × (3 ≤ r) × (r ≤ 73) ⌝ }
+{
+    3 + 10 * fields_used(forty_bits(out[base]))
+}
+
+// Puts the frame of the command at base, for which there is room, and tells the place after it.
+fn put_frame(out: &[i64], base: usize, text: &mut [u8], at: usize) -> usize
+    requires { ⌜ (base + 8 ≤ length (now out)) × (at + length (frameText (drop base (now out))) ≤ length (now text)) ⌝ }
+    ensures { λ r. ⌜ (r ≡ at + length (frameText (drop base (now (out .entry))))) × (now (text .exit) ≡ sets (now (text .entry)) at (frameText (drop base (now (out .entry))))) ⌝ }
+{
+    let kind = forty_bits(out[base]);
+    let many = fields_used(kind);
+    put_parts(kind, out, base + 1, many, text, at);
+    at + 3 + 10 * many
+}
+
+// Puts the frame of the command whose eight numbers start at base.
+pub fn frame(out: &[i64], base: usize, text: &mut [u8], at: usize) -> Put
+    ensures { λ r. ⌜ (r ≡ placed (frameAt (now (out .entry)) base) (now (text .entry)) at) × (now (text .exit) ≡ laid (frameAt (now (out .entry)) base) (now (text .entry)) at) ⌝ }
+{
+    if places_from(out.len(), base) < 8 {
+        return Put::Full;
+    }
+    let size = frame_size(out, base);
+    if places_from(text.len(), at) < size {
+        return Put::Full;
+    }
+    Put::At(put_frame(out, base, text, at))
+}
+
+// How long the frames of the first commands are.
+fn frames_size(out: &[i64], many: usize) -> usize
+    requires { ⌜ 8 * many ≤ length (now out) ⌝ }
+    ensures { λ r. ⌜ r ≡ length (framesIn many (now (out .entry))) ⌝ }
+{
+    let mut size = 0;
+    for k in 0..many {
+        size += frame_size(out, 8 * k);
+    }
+    size
+}
+
+// Puts the frames of the first commands, for which there is room.
+fn put_frames(out: &[i64], many: usize, text: &mut [u8], at: usize)
+    requires { ⌜ (8 * many ≤ length (now out)) × (at + length (framesIn many (now out)) ≤ length (now text)) ⌝ }
+    ensures { λ _. ⌜ now (text .exit) ≡ sets (now (text .entry)) at (framesIn many (now (out .entry))) ⌝ }
+{
+    let mut to = at;
+    for k in 0..many {
+        to = put_frame(out, 8 * k, text, to);
+    }
+}
+
+// Puts the frames of the commands of an accepted line.
+fn accepted(many: usize, out: &[i64], text: &mut [u8], at: usize) -> Put
+    ensures { λ r. ⌜ (r ≡ placed (framesAt many (now (out .entry))) (now (text .entry)) at) × (now (text .exit) ≡ laid (framesAt many (now (out .entry))) (now (text .entry)) at) ⌝ }
+{
+    if out.len() / 8 < many {
+        return Put::Full;
+    }
+    // Past its end a text has no room, not even for no frame.
+    if text.len() < at {
+        return Put::Full;
+    }
+    let size = frames_size(out, many);
+    if text.len() - at < size {
+        return Put::Full;
+    }
+    put_frames(out, many, text, at);
+    Put::At(at + size)
+}
+
+// Puts the frame of a refusal that has room.
+fn put_refusal(number: u8, text: &mut [u8], at: usize)
+    requires { ⌜ at + 13 ≤ length (now text) ⌝ }
+    ensures { λ _. ⌜ now (text .exit) ≡ sets (now (text .entry)) at (refusalFrame number) ⌝ }
+{
+    put_hex(0xFF, 2, text, at);
+    put_hex(number as u64, 10, text, at + 2);
+    text[at + 12] = b'\n';
+}
+
+// Puts the frame of a refusal.
+pub fn refusal(number: u8, text: &mut [u8], at: usize) -> Put
+    ensures { λ r. ⌜ (r ≡ placed (some (refusalFrame number)) (now (text .entry)) at) × (now (text .exit) ≡ laid (some (refusalFrame number)) (now (text .entry)) at) ⌝ }
+{
+    if places_from(text.len(), at) < 13 {
+        return Put::Full;
+    }
+    put_refusal(number, text, at);
+    Put::At(at + 13)
+}
+
+// Puts what is written for a line: the frames of its commands, or of its refusal, or nothing.
+pub fn answer_frames(answer: Answer, out: &[i64], text: &mut [u8], at: usize) -> Put
+    ensures { λ r. ⌜ (r ≡ placed (answerFrames answer (now (out .entry))) (now (text .entry)) at) × (now (text .exit) ≡ laid (answerFrames answer (now (out .entry))) (now (text .entry)) at) ⌝ }
+{
+    match answer {
+        Answer::Accepted(many) => accepted(many as usize, out, text, at),
+        Answer::Refused(number) => refusal(number, text, at),
+        Answer::Skipped => accepted(0, out, text, at),
+    }
+}
+
+// The place of the first line feed from a place on, or the end of the text where there is none.
+fn feed_from(s: &[u8], at: usize) -> usize
+    requires { ⌜ at ≤ length (now s) ⌝ }
+    ensures { λ r. ⌜ (r ≡ feedFrom (now (s .entry)) at) × (r ≤ length (now (s .entry))) ⌝ }
+{
+    let mut i = at;
+    while i < s.len() {
+        if s[i] == b'\n' {
+            return i;
+        }
+        i += 1;
+    }
+    i
+}
+
+// The end of the line from a place to a line feed: one carriage return before it is dropped.
+fn end_of(s: &[u8], at: usize, feed: usize) -> usize
+    requires { ⌜ (at ≤ feed) × (feed ≤ length (now s)) ⌝ }
+    ensures { λ r. ⌜ r ≡ endOf (now (s .entry)) at feed ⌝ }
+{
+    if at < feed {
+        if s[feed - 1] == b'\r' {
+            return feed - 1;
+        }
+    }
+    feed
+}
+
+// The line of s from a place on.
+pub fn next_line(s: &[u8], at: usize) -> Next
+    ensures { λ r. ⌜ r ≡ nextFrom (now (s .entry)) at ⌝ }
+{
+    if s.len() < at {
+        return Next::Part;
+    }
+    let feed = feed_from(s, at);
+    if feed == s.len() {
+        return Next::Part;
+    }
+    let end = end_of(s, at, feed);
+    Next::Line {
+        end,
+        next: feed + 1,
+    }
+}

@@ -1,0 +1,696 @@
+//! The examples of document 01 and of its readings, as tables, run by `second examples`.
+//! Lines worked beforehand are parted by `|`; each must be accepted.
+
+use crate::rules::{self, Reading, Record, TABLE_LENGTH};
+use std::io::{self, Write};
+
+/// Form only: a line and 0 or 3.
+const FORMS: &[(&[u8], u8)] = &[
+    // Empty line, comments.
+    (b"", 0),
+    (b" \t ", 0),
+    (b"()", 0),
+    (b"(c)(d)", 0),
+    (b"(a", 3),
+    (b"G1 (", 3),
+    (b")", 3),
+    (b"G1)", 3),
+    (b"(a(b)", 3),
+    (b"(a(b))", 3),
+    (b"(a))", 3),
+    (b"(a\tb ~)", 0),
+    (b"(\x00)", 3),
+    (b"(\x08)", 3),
+    (b"(\x0a)", 3),
+    (b"(\x1f)", 3),
+    (b"(\x7f)", 3),
+    (b"(\x80)", 3),
+    (b"(\xff)", 3),
+    // Blanks are 32 and 9 only.
+    (b"M6\r", 3),
+    (b"M6\n", 3),
+    (b"\x0bM6", 3),
+    (b"M\x0c6", 3),
+    (b"M6\0", 3),
+    (b"M6\xa0", 3),
+    // Letters raised, blanks dropped, comments only between items.
+    (b"xabs[1]", 0),
+    (b"x[7Mod3]", 0),
+    (b"n10", 0),
+    (b"x[7 M O D 3]", 0),
+    (b"N 1 2", 0),
+    (b"# 1 = 2", 0),
+    (b"g0x +0. 12 34y 7", 0),
+    (b"G(c)1", 3),
+    (b"X[1(c)]", 3),
+    (b"#1(c)=2", 3),
+    (b"N(c)1", 3),
+    (b"G1(c)X1", 0),
+    // Line number and block delete.
+    (b"N", 3),
+    (b"N0", 0),
+    (b"N00000", 0),
+    (b"N12345", 0),
+    (b"N123456", 3),
+    (b"N-1", 3),
+    (b"N1.5", 3),
+    (b"N1N2", 3),
+    (b"N1/", 3),
+    (b"/", 0),
+    (b"/N1G1", 0),
+    (b"//", 3),
+    (b"(c)N1", 3),
+    (b"(c)/", 3),
+    (b"/(c)N1", 3),
+    (b"G1N1", 3),
+    // Numbers.
+    (b"X5.", 0),
+    (b"X.5", 0),
+    (b"X+.5", 0),
+    (b"X-0", 0),
+    (b"X", 3),
+    (b"X.", 3),
+    (b"X+.", 3),
+    (b"X1.2.3", 3),
+    (b"X--1", 3),
+    (b"X1e5", 3),
+    (b"X1,5", 3),
+    (b"X000000000000000000000000000000000000000000000000000000001", 0),
+    // Signs.
+    (b"X-#1", 3),
+    (b"X-[1]", 3),
+    (b"X+ABS[1]", 3),
+    (b"X[-#1]", 3),
+    (b"X[1--2]", 0),
+    (b"X[1+-2]", 0),
+    (b"X[-1]", 0),
+    (b"X#-1", 0),
+    (b"X[1---2]", 3),
+    // Parameters, functions, settings.
+    (b"X##1", 0),
+    (b"X#ABS[1]", 0),
+    (b"X###[1+1]", 0),
+    (b"##1=5", 0),
+    (b"XABS1", 3),
+    (b"XABS#1", 3),
+    (b"XROUND", 3),
+    (b"XSIN[1]", 3),
+    (b"#1=2=3", 3),
+    (b"X[1=1]", 3),
+    (b"#1", 3),
+    (b"#=1", 3),
+    (b"#1=", 3),
+    (b"=1", 3),
+    (b"#1=2#3=4X#1", 0),
+    // Expressions.
+    (b"X[]", 3),
+    (b"X[1", 3),
+    (b"X1]", 3),
+    (b"X[1+]", 3),
+    (b"X[1 2]", 0),
+    (b"X[1[2]]", 3),
+    (b"X[[1][2]]", 3),
+    (b"X[2**3]", 3),
+    (b"X1+2", 3),
+    (b"X1MOD2", 3),
+    (b"X1M2", 0),
+    (b"XFIX[1]F1", 0),
+    (b"FFIX[1]", 0),
+    (b"FIX[1]", 3),
+    // Letters that are no words.
+    (b"A1", 3),
+    (b"H1", 3),
+    (b"R1", 3),
+    (b"O1", 3),
+    (b"%", 3),
+    // Form is judged over the whole line before any value.
+    (b"X1.23456 G", 3),
+    (b"X[1/0]", 0),
+];
+
+/// A value written after X, and its ten-thousandths or the number that stops it. Entry 1 is 2,
+/// entry 2 is 7, entry 7 is 1, entry 61 is out of range.
+const VALUES: &[(&str, Result<i64, u8>)] = &[
+    ("[2+3*4]", Ok(140_000)),
+    ("[10-4-3]", Ok(30_000)),
+    ("[2/3]", Ok(6_667)),
+    ("[-0.5*0.0001]", Ok(-1)),
+    ("[-7 MOD 3]", Ok(20_000)),
+    ("FIX[-2.8]", Ok(-30_000)),
+    ("FUP[-2.8]", Ok(-20_000)),
+    ("ROUND[-2.5]", Ok(-30_000)),
+    ("99999.9999", Ok(999_999_999)),
+    ("-99999.9999", Ok(-999_999_999)),
+    ("100000", Err(5)),
+    ("-100000", Err(5)),
+    ("100000000000000000000000000000", Err(5)),
+    ("1.2345", Ok(12_345)),
+    ("1.23456", Err(4)),
+    ("1.00000", Err(4)),
+    ("100000.00000", Err(4)),
+    ("1 2", Ok(120_000)),
+    ("+0. 12 34", Ok(1_234)),
+    ("5.", Ok(50_000)),
+    (".5", Ok(5_000)),
+    ("-0", Ok(0)),
+    ("[1--2]", Ok(30_000)),
+    ("[1+-2]", Ok(-10_000)),
+    // An operation is worked out once its right side is.
+    ("[99999+1-1/0]", Err(5)),
+    ("[99999+1*1/0]", Err(6)),
+    ("[99999+99999-99999]", Err(5)),
+    ("[1 OR 0+5]", Ok(60_000)),
+    ("[5+1 OR 0]", Ok(10_000)),
+    ("[0 AND 1/0]", Err(6)),
+    ("[1+1 AND 0]", Ok(0)),
+    ("[2+7 MOD 3]", Ok(30_000)),
+    ("[1/0.00000]", Err(4)),
+    ("[1.23456/0]", Err(4)),
+    ("[99999*2*1.23456]", Err(5)),
+    ("[0.0001*0.5*0.5]", Ok(1)),
+    ("[2*3+4*5-6/2]", Ok(230_000)),
+    ("[[2+3]*[4-1]]", Ok(150_000)),
+    // Out of range along the way.
+    ("FUP[99999.0001]", Err(5)),
+    ("FUP[99999]", Ok(999_990_000)),
+    ("ROUND[99999.5]", Err(5)),
+    ("ROUND[99999.4999]", Ok(999_990_000)),
+    ("FIX[-99999.0001]", Err(5)),
+    ("ABS[-99999.9999]", Ok(999_999_999)),
+    ("#61", Err(5)),
+    ("[99999.9999*1]", Ok(999_999_999)),
+    ("[99999.9999*1.0001]", Err(5)),
+    ("[99999.9999/0.9999]", Err(5)),
+    // Rounding and divisors.
+    ("[0.0001*0.5]", Ok(1)),
+    ("[0.0001*0.4]", Ok(0)),
+    ("[1/[0.0001*0.4]]", Err(6)),
+    ("[1/-0]", Err(6)),
+    ("[1 MOD 0]", Err(6)),
+    ("[-2/3]", Ok(-6_667)),
+    ("[2/-3]", Ok(-6_667)),
+    ("[0.0001/2]", Ok(1)),
+    ("[-0.0001/2]", Ok(-1)),
+    ("[7 MOD -3]", Ok(10_000)),
+    ("[-7 MOD -3]", Ok(20_000)),
+    ("[5.5 MOD 2]", Ok(15_000)),
+    ("FIX[2.8]", Ok(20_000)),
+    ("FUP[2.8]", Ok(30_000)),
+    ("ROUND[2.5]", Ok(30_000)),
+    ("ROUND[2.4999]", Ok(20_000)),
+    ("ROUND[-0.5]", Ok(-10_000)),
+    ("ABS[-1.5]", Ok(15_000)),
+    // Logic: exactly non-zero is true.
+    ("[0.0001 AND 5]", Ok(10_000)),
+    ("[-1 AND -1]", Ok(10_000)),
+    ("[0 OR 0]", Ok(0)),
+    ("[2 XOR 3]", Ok(0)),
+    ("[2 XOR 0]", Ok(10_000)),
+    // Parameters.
+    ("#1", Ok(20_000)),
+    ("##1", Ok(70_000)),
+    ("#ABS[1]", Ok(20_000)),
+    ("###[1+1]", Ok(20_000)),
+    ("#0.9999", Ok(20_000)),
+    ("#1.0001", Ok(20_000)),
+    ("#1.0002", Err(7)),
+    ("#0.0001", Err(7)),
+    ("#4999", Ok(0)),
+    ("#4999.0001", Ok(0)),
+    ("#4999.9999", Err(7)),
+    ("#5000", Err(7)),
+    ("#-1", Err(7)),
+    ("#100000", Err(5)),
+    ("##61", Err(5)),
+    ("##3", Err(7)),
+    // NGC's printed expressions that document 01 serves.
+    ("[2.0 / 3 * 1.5 - 5.5 / 11.0]", Ok(5_001)),
+    ("[#1+2]", Ok(40_000)),
+    ("#[1+1]", Ok(70_000)),
+    ("[2+2]", Ok(40_000)),
+    ("-0.8807", Ok(-8_807)),
+    ("341", Ok(3_410_000)),
+];
+
+/// Lines worked before, a line, its number.
+const NUMBERS: &[(&str, &str, u8)] = &[
+    // Document 01, either side of each line.
+    ("", "#4999=1", 0),
+    ("", "#0=1", 7),
+    ("", "#5000=1", 7),
+    ("", "#1.0001=2", 0),
+    ("", "#1.0002=2", 7),
+    ("", "X[1/0] G99", 6),
+    ("", "G0 X10000", 0),
+    ("", "G0 X10000.0001", 13),
+    ("F100", "G2 X1.002 I0.5", 0),
+    ("F100", "G2 X1.0021 I0.5", 14),
+    ("", "G1 G0 X1", 9),
+    ("", "G4", 10),
+    ("", "G4 P-1", 11),
+    ("", "", 0),
+    ("", "G0 X99999.9999", 13),
+    ("", "S99999.9999", 0),
+    ("", "S100000", 5),
+    ("", "S1.2345", 0),
+    ("", "S1.23456", 4),
+    ("", "G59.4", 8),
+    // Order among 3 to 7.
+    ("", "X1.23456 G", 3),
+    ("", "X100000 Y1.23456", 5),
+    ("", "X1.23456 Y100000", 4),
+    ("", "#0=[1/0]", 7),
+    ("", "#0=1.23456", 7),
+    ("", "#[1/0]=1", 6),
+    ("", "#100000=1", 5),
+    ("", "#1=100000", 5),
+    // Nearness.
+    ("", "M5.9999", 0),
+    ("", "M5.9998", 8),
+    ("", "M-0.0001", 0),
+    ("", "T-0.0001", 0),
+    ("", "T-0.0002", 11),
+    ("", "T99.0001", 0),
+    ("", "T99.0002", 11),
+    ("", "T99", 0),
+    ("", "T100", 11),
+    ("", "T0", 0),
+    ("", "G10 L1.9999 P1", 0),
+    ("", "G10 L2.0002 P1", 11),
+    ("", "G10 L2 P9.0001", 0),
+    ("", "G10 L2 P9.0002", 11),
+    ("", "G10 L2 P0.9999", 0),
+    ("", "G10 L2 P0", 11),
+    ("", "G10 L2 P10", 11),
+    ("", "G10 L1 P1", 11),
+    ("", "G10 L3 P1", 11),
+    ("", "G-0.0001 X1", 0),
+    ("", "G-0.05 X1", 8),
+    ("", "G-1", 8),
+    ("", "G99.9999", 8),
+    ("", "G59.0999", 0),
+    ("", "G59.0998", 8),
+    ("", "G54.05", 8),
+    ("", "F-0.0001", 11),
+    ("", "S-0.0001", 11),
+    ("", "G4 P-0.0001", 11),
+    ("", "F-0", 0),
+    ("", "S-0", 0),
+    ("", "G4 P-0", 0),
+    // Codes.
+    ("", "G100000", 5),
+    ("", "G1 G1 G5", 8),
+    ("", "G93", 8),
+    ("", "G41", 8),
+    ("", "M10", 8),
+    ("", "M100", 8),
+    ("", "G40 G40", 9),
+    ("", "G94 G40 G49", 0),
+    ("", "G4 P1 G53 X1", 9),
+    ("", "G92 G92.1 X1", 9),
+    ("", "M7 M8", 9),
+    ("", "M3 M3", 9),
+    ("", "M3 M6 M7 M0", 0),
+    ("", "X1 X1", 9),
+    ("", "#1=1 #1=1", 0),
+    ("", "G0 G10 L2 P1 X1", 9),
+    ("", "G3 G92 X1", 9),
+    ("", "G0 G10", 9),
+    ("", "G80 G92 X1", 0),
+    ("", "G80 G10 L2 P1 X1", 0),
+    ("", "G0 G92.1 X1", 0),
+    ("", "G92.1 X1", 12),
+    ("", "G4 P1 X1", 12),
+    ("G0 X0", "G4 P1 X1", 0),
+    // Needed and idle words.
+    ("", "G0", 10),
+    ("", "G1 F100", 10),
+    ("", "G0 G4 P1", 10),
+    ("F100|G1 X1", "M5", 0),
+    ("", "g40 g1 #3=15 (foo) #4=-7.0", 10),
+    ("", "#4=-7.0 g1 #3=15 g40 (foo)", 10),
+    ("", "G10 L2 P1", 0),
+    ("", "G10 L2 X1", 10),
+    ("", "G10 P1 X1", 10),
+    ("", "G92", 10),
+    ("", "G53", 10),
+    ("F100|G2 X1 I0.5", "G53 X1", 10),
+    ("F100|G2 X1 I0.5", "G53 X1 I1", 12),
+    ("", "X1 I1", 10),
+    ("", "X1", 12),
+    ("", "I1", 10),
+    ("F100|G2 X1 I0.5", "I1", 10),
+    ("F100|G2 X1 I0.5", "G10 L2 P1 X1 I1", 10),
+    ("F100|G2 X1 I0.5", "G92 X1 I1", 10),
+    ("F100", "G1 X1 I1", 10),
+    ("F100", "G2 X1 I0.5 K0", 10),
+    ("F100", "G2 Z1 I0.5", 10),
+    ("F100", "G2 X1", 10),
+    ("F100", "G18 G2 X1 I0.5 K0", 0),
+    ("F100", "G18 G2 X1 I0.5 J0", 10),
+    ("", "P1", 10),
+    ("", "L2", 10),
+    ("", "G4 P1 L2", 10),
+    ("", "G92.1 P1", 10),
+    ("", "G53 G0 X1 P1", 10),
+    ("", "G92 X1 P1", 10),
+    // Moves.
+    ("", "G80 X1", 12),
+    ("", "G53 X1", 12),
+    ("", "G53 G80 X1", 12),
+    ("", "G1 X1", 12),
+    ("F100|G1 X1", "F0 X1", 12),
+    ("", "F100 G1 X1", 0),
+    ("", "F0.0001 G1 X1", 0),
+    ("F0", "G0 X1", 0),
+    ("", "G2 X1 I0.5", 12),
+    ("F100|G3 X1 I0.5", "G53 X1 I1", 12),
+    ("F100", "G53 G2 X1 I0.5", 12),
+    ("F100", "G53 G1 X1", 0),
+    // Reach and arcs.
+    ("", "G20 G0 X393.7007", 0),
+    ("", "G20 G0 X393.7008", 13),
+    ("", "G10 L2 P1 X10000.0001", 13),
+    ("G0 X10000", "G92 X0.0001", 0),
+    ("G0 X10000", "G92 X-0.0001", 13),
+    ("G0 X5000|G92 X0|G10 L2 P1 X9000", "G0 X-5000", 0),
+    ("F100|G0 X10000", "G2 X10000 I0.0001", 13),
+    ("F100", "G2 X99999 I0", 13),
+    ("F100", "G2 X1 I0", 14),
+    ("F100", "G2 X0.001 I0", 14),
+    ("F100", "G2 X0 I0", 14),
+    ("F100", "G2 X0 I1", 0),
+    ("F100", "G2 X1.002 Y0.0031 I0.5", 0),
+    ("F100", "G2 X1.002 Y0.0032 I0.5", 14),
+    ("F100", "G20 G2 X1.0002 Y0.0006 I0.5", 0),
+    ("F100", "G20 G2 X1.0002 Y0.0007 I0.5", 14),
+    ("F100", "G2 X0.02 I0.02", 14),
+    ("F100", "G2 X0.001 I0.001", 0),
+    ("F100", "G20 G2 X1.0002 I0.5", 0),
+    ("F100", "G20 G2 X1.0003 I0.5", 14),
+];
+
+/// Lines worked before, a line, its commands.
+const COMMANDS: &[(&str, &str, &[[i64; 8]])] = &[
+    ("", "g0x +0. 12 34y 7", &[[8, 12_340, 700_000, 0, 0, 0, 0, 0]]),
+    ("#3=1", "G0 #3=15 X#3", &[[8, 100_000, 0, 0, 0, 0, 0, 0]]),
+    ("#3=15|F1", "#3=6 G1 x#3", &[[9, 1_500_000, 0, 0, 0, 0, 0, 0]]),
+    ("", "G20 G0 X1", &[[8, 2_540_000, 0, 0, 0, 0, 0, 0]]),
+    ("", "", &[]),
+    ("", "G94 G40 G49 G54 G17", &[]),
+    ("", "G20 F1", &[[1, 100_000, 0, 0, 0, 0, 0, 0]]),
+    ("G20", "G21 F1", &[[1, 2_540_000, 0, 0, 0, 0, 0, 0]]),
+    ("", "M9", &[[6, 0, 0, 0, 0, 0, 0, 0]]),
+    ("M7", "M8", &[[6, 2, 0, 0, 0, 0, 0, 0]]),
+    ("", "M0", &[[11, 0, 0, 0, 0, 0, 0, 0]]),
+    ("M3", "M30", &[[11, 30, 0, 0, 0, 0, 0, 0]]),
+    ("M3", "M6", &[[4, 0, 0, 0, 0, 0, 0, 0]]),
+    (
+        "G0 X0",
+        "X1 M1 G4 P2 M8 M4 M6 T7 S3 F2",
+        &[
+            [1, 200_000, 0, 0, 0, 0, 0, 0],
+            [2, 30_000, 0, 0, 0, 0, 0, 0],
+            [3, 7, 0, 0, 0, 0, 0, 0],
+            [4, 0, 0, 0, 0, 0, 0, 0],
+            [5, 2, 0, 0, 0, 0, 0, 0],
+            [6, 2, 0, 0, 0, 0, 0, 0],
+            [7, 20_000, 0, 0, 0, 0, 0, 0],
+            [8, 100_000, 0, 0, 0, 0, 0, 0],
+            [11, 1, 0, 0, 0, 0, 0, 0],
+        ],
+    ),
+    ("G0 X5|G91", "G53 X1", &[[8, 100_000, 0, 0, 0, 0, 0, 0]]),
+    ("G0 X5|G91", "X1 Z2", &[[8, 600_000, 0, 200_000, 0, 0, 0, 0]]),
+    ("G10 L2 P7 X1 Y1", "G59.1 G0 X1", &[[8, 200_000, 0, 0, 0, 0, 0, 0]]),
+    ("G10 L2 P6 X3|G10 L2 P7 X1", "G59 G0 X1", &[[8, 400_000, 0, 0, 0, 0, 0, 0]]),
+    ("G0 X4|G92 X7", "G0 X9", &[[8, 600_000, 0, 0, 0, 0, 0, 0]]),
+    ("G0 X4|G92 X7", "G0 G92.1 X9", &[[8, 900_000, 0, 0, 0, 0, 0, 0]]),
+    ("G0 X1|G91", "X1 M2", &[[8, 200_000, 0, 0, 0, 0, 0, 0], [11, 2, 0, 0, 0, 0, 0, 0]]),
+    // NGC's printed arc: from X7 Y7 to X10 Y16 about X10 Y11.
+    (
+        "F1|G0 X7 Y7 Z9",
+        "G17 G2 x 10 y 16 i 3 j 4 z 9",
+        &[[10, 2, 17, 1_000_000, 1_600_000, 900_000, 1_000_000, 1_100_000]],
+    ),
+    ("F1|G0 X1 Y2 Z3", "G18 G3 X1 K1", &[[10, 3, 18, 100_000, 200_000, 300_000, 100_000, 400_000]]),
+    ("F1|G0 X1 Y2 Z3", "G19 G91 G2 Y0 J1", &[[10, 2, 19, 100_000, 200_000, 300_000, 300_000, 300_000]]),
+    ("#100=2", "G[2*5] L[1+1] P#100 X1", &[]),
+];
+
+/// Lines worked before, a line, a place in the record, its number there afterwards.
+const FIELDS: &[(&str, &str, usize, i64)] = &[
+    ("", "G0 X1", 33, 0),
+    ("", "G59", 37, 590),
+    ("", "G59.1", 37, 591),
+    ("", "T99.0001", 40, 99),
+    ("", "T-0.0001", 40, 0),
+    ("", "M5.9999", 41, 0),
+    ("M3", "M6", 41, 0),
+    ("M3", "M6 M4", 41, 2),
+    ("M7", "M8", 42, 3),
+    ("M8", "M7", 42, 3),
+    ("M7|M8", "M9", 42, 0),
+    ("", "G80 G92 X1", 33, 800),
+    ("", "G80 G92 X1", 30, -100_000),
+    ("G0 X1", "G80 G10 L2 P1 X1", 33, 800),
+    ("G0 X4", "G92 X7", 30, -300_000),
+    ("G0 X4|G92 X7", "G92 X9", 30, -500_000),
+    ("G0 X4|G92 X7", "G92.1", 30, 0),
+    ("G0 X1|G91", "G92 X1", 30, 0),
+    ("G10 L2 P2 X1", "G55 G92 X0", 30, -100_000),
+    ("G0 X1|G91", "G10 L2 P1 X1", 3, 100_000),
+    ("G0 X1|G91", "G10 L2 P1 X1", 0, 100_000),
+    ("", "G20 G10 L2 P9 Z1", 29, 2_540_000),
+    ("", "G10 L2 P6 X1", 18, 100_000),
+    ("", "G10 L2 P7 X1", 21, 100_000),
+    ("", "G0 X-0", 0, 0),
+    ("", "F99999.9999", 38, 9_999_999_990),
+    ("G20", "F99999.9999", 38, 253_999_999_746),
+    ("", "M2 G80", 33, 10),
+    ("", "M30 G55", 37, 540),
+    ("", "M30 G19 G91", 34, 170),
+    ("", "M30 G19 G91", 35, 900),
+    ("", "M2 G20", 36, 200),
+    ("M3 M7", "M2", 41, 0),
+    ("M3 M7", "M2", 42, 0),
+    ("G0 X1", "M2 G92 X0", 30, 0),
+    ("F7|S5|T3", "M2", 38, 700_000),
+    ("F7|S5|T3", "M2", 39, 50_000),
+    ("F7|S5|T3", "M2", 40, 3),
+    ("G10 L2 P2 X1", "M2", 6, 100_000),
+    ("G0 X1", "M0", 33, 0),
+    ("G0 X1", "G1 X0.5", 33, 0),
+];
+
+/// Lines worked before, a line, a parameter, its value afterwards. A refused line changes nothing.
+const ENTRIES: &[(&str, &str, usize, i64)] = &[
+    ("", "#3=15 #3=6", 3, 60_000),
+    ("", "#3=6 #3=15", 3, 150_000),
+    ("", "#1.0001=2", 1, 20_000),
+    ("", "#4999=1", 4_999, 10_000),
+    ("#1=2", "##1=5", 2, 50_000),
+    ("#1=2", "##1=5", 1, 20_000),
+    ("#1=4", "#1=2 #2=#1", 2, 40_000),
+    ("#3=1", "G0 #3=15 X#3", 3, 150_000),
+    ("#3=1", "#3=15 G4", 3, 10_000),
+    ("", "#3 = 15", 3, 150_000),
+];
+
+/// Standard input and the frames it gives.
+const FRAMES: &[(&str, &str)] = &[
+    (
+        "G21 G90 F100\nG1 X1 Y-0.5\nM5\nG59.4\n",
+        "010000989680\n0900000186A0FFFFFF3CB00000000000\n050000000000\nFF0000000008\n",
+    ),
+    ("", ""),
+    ("\n\n", ""),
+    ("M6", "04\n"),
+    ("M6\n", "04\n"),
+    ("M6\r\n", "04\n"),
+    ("M6\r", "FF0000000003\n"),
+    ("M6\r\r\n", "FF0000000003\n"),
+    ("\r", "FF0000000003\n"),
+    ("\r\n", ""),
+    ("M2\nM30\nM5", "0B0000000002\n0B000000001E\n050000000000\n"),
+    ("/M6\n", "04\n"),
+    ("G4\nM6\n", "FF000000000A\n"),
+    ("G20\nF99999.9999\nS1\n", "013B23946B02\n020000002710\n"),
+    ("F100\nG3 X1 I0.5\n", "010000989680\n0A0000000003000000001100000186A000000000000000000000000000C3500000000000\n"),
+];
+
+/// A session: a fresh record and an all-zero table, with the lines before it worked.
+struct Session {
+    record: Record,
+    table: Vec<i64>,
+}
+
+impl Session {
+    fn after(before: &str) -> Option<Session> {
+        let mut session = Session { record: Record::fresh(), table: vec![0; TABLE_LENGTH] };
+        let all_accepted = before.split('|').all(|line| session.work(line).0 == 0);
+        all_accepted.then_some(session)
+    }
+
+    /// A line's number and commands.
+    fn work(&mut self, line: &str) -> (u8, Vec<i64>) {
+        let mut space = vec![0; 80];
+        let (number, count) = rules::interpret(line.as_bytes(), false, &mut self.record, &mut self.table, &mut space);
+        space.truncate(8 * count);
+        (number, space)
+    }
+}
+
+fn form_holds(&(line, number): &(&[u8], u8)) -> bool {
+    rules::form(line) == number
+}
+
+fn value_holds((text, expected): &(&str, Result<i64, u8>)) -> bool {
+    let mut table = vec![0; TABLE_LENGTH];
+    (table[1], table[2], table[7], table[61]) = (20_000, 70_000, 10_000, 1_000_000_000);
+    match rules::read(format!("X{text}").as_bytes(), &table) {
+        Reading::WrongForm => false,
+        Reading::Stopped(number) => *expected == Err(number),
+        Reading::Read { words, settings } => {
+            settings.is_empty() && expected.is_ok_and(|value| words == [(b'X', value)])
+        }
+    }
+}
+
+fn number_holds(&(before, line, number): &(&str, &str, u8)) -> bool {
+    Session::after(before).is_some_and(|mut session| session.work(line).0 == number)
+}
+
+fn commands_hold(&(before, line, commands): &(&str, &str, &[[i64; 8]])) -> bool {
+    Session::after(before).is_some_and(|mut session| session.work(line) == (0, commands.concat()))
+}
+
+fn field_holds(&(before, line, place, number): &(&str, &str, usize, i64)) -> bool {
+    Session::after(before).is_some_and(|mut session| {
+        session.work(line);
+        session.record.to_numbers()[place] == number
+    })
+}
+
+fn entry_holds(&(before, line, number, value): &(&str, &str, usize, i64)) -> bool {
+    Session::after(before).is_some_and(|mut session| {
+        session.work(line);
+        session.table[number] == value
+    })
+}
+
+fn frames_hold(&(input, expected): &(&str, &str)) -> bool {
+    let mut written = Vec::new();
+    crate::frames(input.as_bytes(), &mut written).is_ok() && written == expected.as_bytes()
+}
+
+/// A line with the switch, one change to the fresh record, a table and the room, and its answer;
+/// every refusal and skip must leave all that is lent unchanged.
+struct Lent {
+    line: Vec<u8>,
+    switch: bool,
+    field: (usize, i64),
+    entry: (usize, i64),
+    length: usize,
+    room: usize,
+    number: u8,
+}
+
+/// Record fields at the end of their range; one more is number 1.
+const INSIDE: [(usize, i64); 7] =
+    [(0, 1_000_000_000), (29, -1_000_000_000), (38, 253_999_999_746), (39, 999_999_999), (40, 99), (41, 2), (42, 3)];
+/// More fields outside their range.
+const OUTSIDE: [(usize, i64); 7] = [(33, 40), (34, 0), (35, 920), (36, 190), (37, 594), (38, -1), (30, i64::MIN)];
+
+fn usual(line: &[u8], number: u8) -> Lent {
+    Lent { line: line.to_vec(), switch: false, field: (0, 0), entry: (0, 0), length: 5_000, room: 72, number }
+}
+
+fn lent_cases() -> Vec<Lent> {
+    let mut cases = vec![
+        usual(&[b' '; 256], 0),
+        usual(&[b' '; 257], 2),
+        usual(&[b')'; 257], 2),
+        Lent { switch: true, ..usual(b"/)(", 100) },
+        Lent { switch: true, ..usual(b" \t/ M6", 100) },
+        Lent { switch: true, ..usual(b"(c)/", 3) },
+        Lent { switch: true, ..usual(&[b'/'; 257], 2) },
+        Lent { switch: true, length: 4_999, ..usual(b"/", 1) },
+        usual(b"/)(", 3),
+        usual(b"/M6", 0),
+        Lent { length: 4_999, ..usual(b"", 1) },
+        Lent { length: 5_001, ..usual(b"", 1) },
+        Lent { entry: (1, 1_000_000_000), ..usual(b"#1=2", 0) },
+        Lent { entry: (1, 1_000_000_000), ..usual(b"G0 X#1", 5) },
+        Lent { entry: (0, i64::MIN), ..usual(b"G0 X1", 0) },
+        Lent { room: 0, ..usual(b"G21", 0) },
+        Lent { room: 0, ..usual(b"M6", 15) },
+        Lent { room: 7, ..usual(b"M6", 15) },
+        Lent { room: 8, ..usual(b"M6", 0) },
+        Lent { room: 15, ..usual(b"#1=2 M6 M3", 15) },
+        Lent { room: 16, ..usual(b"#1=2 M6 M3", 0) },
+    ];
+    cases.extend(INSIDE.map(|field| Lent { field, ..usual(b"", 0) }));
+    let outside = INSIDE.map(|(place, number)| (place, if number < 0 { number - 1 } else { number + 1 }));
+    cases.extend(outside.map(|field| Lent { field, ..usual(b"", 1) }));
+    cases.extend(OUTSIDE.map(|field| Lent { field, ..usual(b")", 1) }));
+    cases
+}
+
+fn lent_holds(case: &Lent) -> bool {
+    let mut numbers = Record::fresh().to_numbers();
+    numbers[case.field.0] = case.field.1;
+    let mut table = vec![0; case.length];
+    table[case.entry.0] = case.entry.1;
+    let (before, table_before) = (Record::from_numbers(&numbers), table.clone());
+    let (mut record, mut space) = (before.clone(), vec![77; case.room]);
+    let (number, count) = rules::interpret(&case.line, case.switch, &mut record, &mut table, &mut space);
+    let unchanged = count == 0 && record == before && table == table_before && space == vec![77; case.room];
+    number == case.number && (number == 0 || unchanged) && space[8 * count..].iter().all(|&place| place == 77)
+}
+
+/// NGC prints a line of five items that means the same in all of its 120 orders; here it is 10.
+fn five_items_in_every_order() -> Vec<String> {
+    let mut orders = vec![String::new()];
+    for (placed, item) in ["g40", "g1", "#3=15", "(foo)", "#4=-7.0"].iter().enumerate() {
+        orders = orders.iter().flat_map(|order| (0..=placed).map(move |place| with_item(order, place, item))).collect();
+    }
+    orders
+}
+
+fn with_item(order: &str, place: usize, item: &str) -> String {
+    let mut items: Vec<&str> = order.split_whitespace().collect();
+    items.insert(place, item);
+    items.join(" ")
+}
+
+fn order_holds(line: &String) -> bool {
+    number_holds(&("", line, 10))
+}
+
+/// How many examples of a table hold and how many do not; those that do not are named by place.
+fn count<T>(name: &str, table: &[T], holds: fn(&T) -> bool, out: &mut impl Write) -> io::Result<(usize, usize)> {
+    let failed: Vec<usize> = (0..table.len()).filter(|&place| !holds(&table[place])).collect();
+    for place in &failed {
+        writeln!(out, "failed: {name} {place}")?;
+    }
+    Ok((table.len() - failed.len(), failed.len()))
+}
+
+/// Runs every table; true if all examples hold.
+pub fn run(out: &mut impl Write) -> io::Result<bool> {
+    let counts = [
+        count("form", FORMS, form_holds, out)?,
+        count("value", VALUES, value_holds, out)?,
+        count("number", NUMBERS, number_holds, out)?,
+        count("commands", COMMANDS, commands_hold, out)?,
+        count("field", FIELDS, field_holds, out)?,
+        count("entry", ENTRIES, entry_holds, out)?,
+        count("frames", FRAMES, frames_hold, out)?,
+        count("order", &five_items_in_every_order(), order_holds, out)?,
+        count("lent", &lent_cases(), lent_holds, out)?,
+    ];
+    let (passed, failed) = counts.iter().fold((0, 0), |sum, one| (sum.0 + one.0, sum.1 + one.1));
+    writeln!(out, "{passed} passed, {failed} failed")?;
+    Ok(failed == 0)
+}
