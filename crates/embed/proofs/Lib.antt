@@ -1,0 +1,5 @@
+pub mod Runs
+pub mod Held
+pub mod Repacked
+pub mod Demands
+pub mod Soles

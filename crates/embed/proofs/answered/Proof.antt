@@ -1,0 +1,33 @@
+-- `embed::answered` meets its contract.
+-- Assumes nothing.
+use mathlib.Core.Path.{ap, sym}
+use borrow.Author.Needs.{needs}
+use Rattle.embed.specs.Packing.{answered}
+use Rattle.embed.proofs.answered.Statement.{statement}
+use Rattle.embed.proofs.answered.Tie as tie
+
+enum-known-answer : tie.Need-enum-known-answer
+enum-known-answer c = search needs
+
+enum-known-answer-2 : tie.Need-enum-known-answer-2
+enum-known-answer-2 c = search needs
+
+cast-t5 : tie.Need-cast-t5
+cast-t5 c = search needs
+
+enum-told : tie.Need-enum-told
+enum-told c = search needs
+
+returns : tie.Need-returns
+returns c = ap answered (sym (c .before .answer .given .1))
+
+returns-2 : tie.Need-returns-2
+returns-2 c = ap answered (sym (c .before .answer2 .given .1))
+
+returns-3 : tie.Need-returns-3
+returns-3 c = ap answered (sym (c .enum-told .given .1))
+
+pub answered-spec : {M : Type 1} → statement M
+answered-spec =
+    tie.close
+    (tie.spec enum-known-answer enum-known-answer-2 cast-t5 enum-told returns returns-2 returns-3)
