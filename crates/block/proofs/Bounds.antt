@@ -1,30 +1,26 @@
--- How large the lengths can be that a line's work meets: those of a record in order, those of the record once the line's steps are done, and the ways
--- from an arc's centre.
+-- How large the lengths can be that a line's work meets: those of a record in order, and those of the record once the line's steps are done.
 -- Assumes nothing.
-use mathlib.Core.Path.{_≡_, refl, ap, _∙_}
-use mathlib.Core.Bool.{Bool, true, false, cond, _||_, or-true, false≢true, and-eq-true-iff}
+use mathlib.Core.Path.{_≡_, refl}
+use mathlib.Core.Bool.{Bool, true, false, cond}
 use mathlib.Core.List.{List, [], _∷_, map}
 use Prim.Native.Nat.{ℕ, zero, suc, _+_, _*_, _≤_}
 use native.Mathlib.Omega.{arith}
-use native.Mathlib.Nat as N
 use lib.Dec.{eqb}
 use lib.IntN.{natAbs}
 use lib.ListN.{length, set}
-use borrow.Author.Tests.{leb-true, eqb-true, eq-eqb}
 use Rattle.laws.proofs.Ints.{within-sum, within-diff, abs-product}
-use Rattle.grammar.specs.Bytes.{among}
-use Rattle.rules.specs.Numbers.{within}
 use Rattle.rules.specs.Codes.{systemNumber}
 use Rattle.rules.specs.Block.{axis, allAxes, setsOrigin, setsOffset, zeroesOffset}
 use Rattle.rules.specs.Reach.{perTenThousandth, converted, _plus_, _less_, nowhere, at, inReach, inOrder}
 use Rattle.rules.specs.Steps.{feedStep, speedStep, toolStep, changeStep, spindleStep, coolantStep, planeStep, unitsStep, systemStep, distanceStep, originStep, offsetStep, ready, long, originPlace, originSystem, origin, named, originsSet, offsetAt, noOffset}
-use Rattle.rules.specs.Arcs.{planeAxes, centreAt, centre, squares, away}
+use Rattle.rules.specs.Arcs.{planeAxes}
 use Rattle.rules.specs.declared.Value.{Value}
 use Rattle.rules.specs.declared.Length.{Length}
 use Rattle.rules.specs.declared.Block.{Block}
 use Rattle.rules.specs.declared.Record.{Record}
 use Rattle.record.proofs.InOrder.{on-axis, told}
 use Rattle.block.specs.Bounds.{Ranged, Small}
+use native.Mathlib.Nat as N
 
 -- ---- lists of lengths, each at most n in size
 abbrev pub Under : ℕ → List Length → Type 0
@@ -138,18 +134,7 @@ ready-small b r q e = record {
   offset = ready-offset b r q e;
 }
 
--- ---- an arc whose centre is in reach: the ways from it to places in reach, and their summed squares
-mapped-reach : (f : ℕ → Length) (is : List ℕ) → inReach (map f is) ≡ true → (i : ℕ) → among i is ≡ true → natAbs (f i .0) ≤ 1000000000
-mapped-reach f [] e i h = absurd (false≢true h)
-mapped-reach f (j ∷ js) e i h = go (eqb i j) refl h (λ g. mapped-reach f js (and-eq-true-iff (within 1000000000 (f j .0)) (inReach (map f js)) .0 e .1) i g)
-  where
-    first : natAbs (f j .0) ≤ 1000000000
-    first = leb-true (natAbs (f j .0)) 1000000000 (and-eq-true-iff (within 1000000000 (f j .0)) (inReach (map f js)) .0 e .0)
-
-    go : (c : Bool) → eqb i j ≡ c → (c || among i js) ≡ true → (among i js ≡ true → natAbs (f i .0) ≤ 1000000000) → natAbs (f i .0) ≤ 1000000000
-    go true q g k = rw (eqb-true i j q) first
-    go false q g k = k g
-
+-- ---- the axes of a plane
 pub two-axes : (plane : ℕ) → length (planeAxes plane) ≡ 2
 unfolding planeAxes
 two-axes plane = go (eqb plane 170) (eqb plane 180)
@@ -158,18 +143,3 @@ two-axes plane = go (eqb plane 170) (eqb plane 180)
     go true d = refl
     go false true = refl
     go false false = refl
-
-module _ (b : Block) (m : Record) (p : List Length) (u : Under 1000000000 p) where
-  pub way-under : inReach (centre b m) ≡ true → (i : ℕ) → among i (planeAxes (m .plane)) ≡ true → natAbs ((at p i less centreAt b m i) .0) ≤ 2000000000
-  unfolding centre
-  way-under e i h = less-under (at p i) (centreAt b m i) 1000000000 1000000000 (u i) (mapped-reach (centreAt b m) (planeAxes (m .plane)) e i h)
-
-  squares-under : (is : List ℕ) → ((i : ℕ) → among i is ≡ true → natAbs ((at p i less centreAt b m i) .0) ≤ 2000000000) → squares b m p is ≤ 4000000000000000000 * length is
-  squares-under [] h = omega arith
-  squares-under (i ∷ is) h =
-      let z = (at p i less centreAt b m i) .0 in
-      let k : natAbs z ≤ 2000000000 = h i (rw (eq-eqb i i refl) refl) in
-      omega (arith, N.mul-le-mul k k, squares-under is (λ j g. h j (ap (λ (c : Bool). eqb j i || c) g ∙ or-true (eqb j i))))
-
-  pub away-under : inReach (centre b m) ≡ true → away b m p ≤ 8000000000000000000
-  away-under e = omega (arith, squares-under (planeAxes (m .plane)) (way-under e), two-axes (m .plane))

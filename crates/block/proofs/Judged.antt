@@ -1,7 +1,7 @@
 -- Numbers 10 and 12 read of the record what `Judged` says they read; and what number 13 tells of an arc where it is not given.
 -- Assumes nothing.
 use mathlib.Core.Path.{_≡_, refl}
-use mathlib.Core.Bool.{Bool, true, false, not, _&&_, _||_, and-eq-true-iff}
+use mathlib.Core.Bool.{true, false, not, _&&_, _||_, and-eq-true-iff}
 use mathlib.Core.List.{[], _∷_}
 use borrow.Author.Tests.{not-false}
 use Rattle.grammar.specs.Bytes.{among}

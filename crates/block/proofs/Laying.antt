@@ -1,6 +1,6 @@
 -- Laws of numbers laid over a space: nothing laid, one run after another, and commands laid one after the other.
 -- Assumes nothing.
-use mathlib.Core.Path.{_≡_, refl, ap, sym, _∙_, subst}
+use mathlib.Core.Path.{_≡_, refl, ap, sym, _∙_}
 use mathlib.Core.Bool.{Bool, true, false, cond}
 use mathlib.Core.List.{List, [], _∷_, _++_, append-assoc, append-nil}
 use Prim.Native.Nat.{ℕ, zero, suc, _+_, _*_, _/_, _≤_, _<_}
@@ -9,7 +9,7 @@ use native.Mathlib.Numerals.{add-one}
 use native.Mathlib.Omega.{arith}
 use lib.Dec.{eqb}
 use lib.IntN.{ℤ, pos}
-use lib.ListN.{length, take, drop, set, take-append-drop, length-append, length-drop, length-set}
+use lib.ListN.{length, take, drop, set, take-append-drop, length-append, length-drop}
 use lib.Seq.{paste, length-take-le, drop-drop, take-at, drop-at, take-all, take-suc-set, drop-set-lt, append-snoc}
 use Rattle.rules.specs.Block.{dwells, moves}
 use Rattle.rules.specs.Steps.{spindleOf, coolantOf, target, motionOf}
@@ -21,7 +21,7 @@ use Rattle.rules.specs.declared.Length.{Length}
 use Rattle.rules.specs.declared.Block.{Block}
 use Rattle.rules.specs.declared.Record.{Record}
 use Rattle.rules.specs.declared.Command.{Command}
-use Rattle.block.specs.Laying.{laid, behind, once, howMany}
+use Rattle.block.specs.Laying.{laid, behind, oneIf, howMany}
 
 pub laid-none : (out : List ℤ) (at : ℕ) → laid out at [] ≡ out
 unfolding laid
@@ -170,28 +170,28 @@ module _ (b : Block) (m : Record) where
   in-turn = simp append-assoc
 
 -- ---- how many commands, and how many numbers
-once-le : (asked : Bool) → once asked ≤ 1
-once-le true = omega arith
-once-le false = omega arith
+one-le : (asked : Bool) → oneIf asked ≤ 1
+one-le true = omega arith
+one-le false = omega arith
 
 length-padded : (n : ℕ) (zs : List ℤ) → length (padded n zs) ≡ n
 length-padded zero zs = refl
 length-padded (suc n) [] = ap suc (length-padded n [])
 length-padded (suc n) (z ∷ zs) = ap suc (length-padded n zs)
 
-count-next : (asked : Bool) (c : Command) (cs : List Command) → length (only asked c ++ cs) ≡ once asked + length cs
+count-next : (asked : Bool) (c : Command) (cs : List Command) → length (only asked c ++ cs) ≡ oneIf asked + length cs
 count-next true c cs = omega arith
 count-next false c cs = omega arith
 
-written-next : (asked : Bool) (c : Command) (cs : List Command) → length (c .fields) ≡ 7 → length (written (only asked c ++ cs)) ≡ 8 * once asked + length (written cs)
+written-next : (asked : Bool) (c : Command) (cs : List Command) → length (c .fields) ≡ 7 → length (written (only asked c ++ cs)) ≡ 8 * oneIf asked + length (written cs)
 written-next true c cs e = omega (arith, length-append (c .fields) (written cs))
 written-next false c cs e = omega arith
 
-last-count : (asked : Bool) (c : Command) → length (only asked c) ≡ once asked
+last-count : (asked : Bool) (c : Command) → length (only asked c) ≡ oneIf asked
 last-count true c = refl
 last-count false c = refl
 
-last-written : (asked : Bool) (c : Command) → length (c .fields) ≡ 7 → length (written (only asked c)) ≡ 8 * once asked
+last-written : (asked : Bool) (c : Command) → length (c .fields) ≡ 7 → length (written (only asked c)) ≡ 8 * oneIf asked
 last-written true c e = omega (arith, length-append (c .fields) [])
 last-written false c e = omega arith
 
@@ -210,15 +210,15 @@ unfolding howMany
 how-many-le b =
     omega (
       arith,
-      once-le (b .f .given),
-      once-le (b .s .given),
-      once-le (b .t .given),
-      once-le (b .change .given),
-      once-le (b .spindle .given),
-      once-le (b .coolant .given),
-      once-le (dwells b),
-      once-le (moves b),
-      once-le (b .stop .given),
+      one-le (b .f .given),
+      one-le (b .s .given),
+      one-le (b .t .given),
+      one-le (b .change .given),
+      one-le (b .spindle .given),
+      one-le (b .coolant .given),
+      one-le (dwells b),
+      one-le (moves b),
+      one-le (b .stop .given),
     )
 
 module _ (b : Block) (m : Record) where

@@ -1,4 +1,4 @@
--- What number 10 reads of the record, and what numbers 10 and 11 tell of the line's T and P: they are judged before the steps are taken.
+-- What the steps leave of the record that numbers 10 and 14 read, and what numbers 10 and 11 tell of the line's T and P: these two are judged before the steps are taken.
 -- Assumes nothing.
 use mathlib.Core.Path.{_≡_, refl}
 use mathlib.Core.Bool.{Bool, true, false, not, _&&_, _||_, false≢true, true≢false, and-eq-true-iff}
@@ -11,7 +11,7 @@ use Rattle.rules.specs.Numbers.{whole, between, counted}
 use Rattle.rules.specs.Block.{axis, offset, anyOf, dwells, setsOrigin, machine, setsOffset, namesAxis, orElse}
 use Rattle.rules.specs.Steps.{feedStep, speedStep, toolStep, changeStep, spindleStep, coolantStep, planeStep, unitsStep, systemStep, distanceStep, originStep, offsetStep, ready, motionOf}
 use Rattle.rules.specs.Arcs.{arcMove, planeAxes}
-use Rattle.rules.specs.Refusals.{movingCode, missing, idle, below0, outside, wrongWord}
+use Rattle.rules.specs.Refusals.{movingCode, missing, below0, outside, wrongWord}
 use Rattle.rules.specs.declared.Near.{Near}
 use Rattle.rules.specs.declared.Near.the-variants.{To, Nothing}
 use Rattle.rules.specs.declared.Block.{Block}
@@ -30,16 +30,6 @@ ready-plane b r = refl
 pub ready-motion : (b : Block) (r : Record) → motionOf b (ready b r) ≡ orElse (b .motion) (r .motion)
 unfolding ready feedStep speedStep toolStep changeStep spindleStep coolantStep planeStep unitsStep systemStep distanceStep originStep offsetStep
 ready-motion b r = refl
-
--- ---- number 10 reads no more of the record than plane and motion
-module _ (b : Block) (m n : Record) (p : m .plane ≡ n .plane) (q : motionOf b m ≡ motionOf b n) where
-  pub missing-by : missing b m ≡ missing b n
-  unfolding missing arcMove
-  missing-by = rw (p, q) refl
-
-  pub idle-by : idle b m ≡ idle b n
-  unfolding idle arcMove
-  idle-by = rw (p, q) refl
 
 -- ---- where neither 10 nor 11 is given
 pub neither : (a b : Bool) → (a || b) ≡ false → (a ≡ false) × (b ≡ false)

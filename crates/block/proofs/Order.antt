@@ -1,9 +1,9 @@
 -- The order of the numbers, and what a call leaves by the first of them.
 -- Assumes nothing.
-use mathlib.Core.Path.{_≡_, refl, sym, ap, _∙_}
-use mathlib.Core.Bool.{Bool, true, false, _&&_, _||_}
+use mathlib.Core.Path.{_≡_, refl, sym, _∙_}
+use mathlib.Core.Bool.{Bool, true, false, _||_}
 use mathlib.Core.List.{List, [], _∷_, _++_}
-use Prim.Native.Nat.{ℕ, zero, suc, _*_, _≤_, _<_}
+use Prim.Native.Nat.{ℕ, _*_, _≤_, _<_}
 use native.Mathlib.Omega.{arith}
 use lib.Dec.{ltb, lit<}
 use lib.ListN.{length}
@@ -12,18 +12,18 @@ use borrow.Author.Tests.{ne-eqb, lt-ltb, le-ltb}
 use Rattle.rules.specs.Meaning.{Said}
 use Rattle.rules.specs.Block.{blockOf, orElse}
 use Rattle.rules.specs.Reach.{inReach, inOrder}
-use Rattle.rules.specs.Steps.{feedStep, speedStep, toolStep, changeStep, spindleStep, coolantStep, planeStep, unitsStep, systemStep, distanceStep, originStep, offsetStep, ready, left, motionOf}
+use Rattle.rules.specs.Steps.{ready, left, motionOf}
 use Rattle.rules.specs.Commands.{commands, written}
-use Rattle.rules.specs.Refusals.{Case, _when_, first, unserved, doubled, missing, idle, wrongWord, refusals}
+use Rattle.rules.specs.Refusals.{Case, _when_, first, unserved, doubled, wrongWord}
 use Rattle.rules.specs.Promise.{over}
 use Rattle.rules.specs.declared.Block.{Block}
 use Rattle.rules.specs.declared.Record.{Record}
 use Rattle.rules.specs.declared.Answer.the-variants.{Accepted, Refused}
 use Rattle.record.proofs.InOrder.{told}
 use Rattle.block.specs.Bounds.{Numbered}
-use Rattle.block.specs.Judged.{missingIn, idleIn}
-use Rattle.block.specs.Execution.{Done, done, doneBy, early, late, remaining, executed, unread, execution}
-use Rattle.block.proofs.Modes.{numbered, ready-plane, ready-motion}
+use Rattle.block.specs.Judged.{missingIn, idleIn, early, late, remaining}
+use Rattle.block.specs.Execution.{Done, done, doneBy, executed, unread, execution}
+use Rattle.block.proofs.Modes.{numbered, ready-plane, ready-motion, ready-position}
 use Rattle.block.proofs.Judged.{missing-is, idle-is}
 
 -- ---- the first of two lists of conditions
@@ -86,8 +86,7 @@ early-numbered b m e =
 
 -- ---- the position is in reach until the motion step
 pub ready-reached : (b : Block) (r : Record) → inOrder r ≡ true → inReach (ready b r .position) ≡ true
-unfolding ready feedStep speedStep toolStep changeStep spindleStep coolantStep planeStep unitsStep systemStep distanceStep originStep offsetStep
-ready-reached b r e = told r e .position
+ready-reached b r e = rw (ready-position b r) (told r e .position)
 
 -- ---- what is left by the first number
 pub refused-by : (b : Block) (r : Record) (out : List ℤ) {m : ℕ} (n : ℕ) → m ≡ n → (n ≡ 0 → ⊥) → _≡_ {A = Done} (done (Refused n) r out) (doneBy m b r out)

@@ -9,6 +9,7 @@ use native.Mathlib.Omega.{arith}
 use lib.Dec.{T, eqb, ltb, eqb→eq, leb→le}
 use lib.IntN.{ℤ, natAbs}
 use lib.ListN.{length, take, getD}
+use lib.Seq.{length-take-le}
 use borrow.Author.Tests.{ltb-false}
 use Rattle.laws.proofs.Bools.{and-left, and-right, or-cases}
 use Rattle.grammar.specs.Bytes.{byte, bytes, among, all}
@@ -26,7 +27,7 @@ use Rattle.block.specs.Bounds.{Ranged}
 use Rattle.block.specs.Execution.{allLettered, allRanged, unread}
 
 -- ---- words held side by side, one value to a letter
-pub said-length : (ls : List ℕ) (vs : List ℤ) → length ls ≡ length vs → length (said ls vs) ≡ length ls
+said-length : (ls : List ℕ) (vs : List ℤ) → length ls ≡ length vs → length (said ls vs) ≡ length ls
 said-length [] vs e = refl
 said-length (l ∷ ls) [] e = absurd (omega arith)
 said-length (l ∷ ls) (v ∷ vs) e = ap suc (said-length ls vs (omega arith))
@@ -70,6 +71,11 @@ front-fits count ls vs {n} e =
     let k = said-count count ls vs in
     let l = min-le-right count (min (length ls) (length vs)) in
     (omega (arith, k, l, min-le-left (length ls) (length vs)), omega (arith, k, l, min-le-right (length ls) (length vs)))
+
+pub front-even : (count : ℕ) (ls : List ℕ) (vs : List ℤ) {n : ℕ} → n ≡ length (said (take count ls) (take count vs)) → length (take n ls) ≡ length (take n vs)
+front-even count ls vs {n} e =
+    let h = front-fits count ls vs e in
+    length-take-le n ls (h .0) ∙ sym (length-take-le n vs (h .1))
 
 -- ---- the numbers of words that no line gives
 abbrev judged : Bool → Bool → Bool → ℕ
@@ -132,18 +138,23 @@ capitals (l ∷ ls) t =
     go true s u = u
     go false s u = both (capital l) (all capital (others ls)) s u
 
--- number 9 by the keys of letters and groups
-pub doubled-said : (ls : List ℕ) (vs : List ℤ) (b : Block) → length ls ≡ length vs → allLettered (said ls vs) ≡ true →
-    doubled (said ls vs) b
-    ≡ (twice (keys (others ls))
-    || twice (keys (groupsOf (byte "G") (said ls vs)))
-    || twice (keys (groupsOf (byte "M") (said ls vs)))
-    || movingCode b && (setsOrigin b || setsOffset b))
-unfolding doubled gCodes mCodes
-doubled-said ls vs b e t =
-    let ws = said ls vs in
-    let k : T (all letter ls) = T-of (sym (said-lettered ls vs e) ∙ t) in
-    rw (others-said ws, said-letters ls vs e, letters-apart (others ls) (capitals ls k), g-groups-apart ws, m-groups-apart ws) refl
+-- where a line can give the words: they are few, and number 9 goes by the keys of letters and groups
+module _ (ls : List ℕ) (vs : List ℤ) (e : length ls ≡ length vs) (read : unread (said ls vs) ≡ 0) where
+  pub letters-few : length ls ≤ 128
+  letters-few = omega (arith, said-length ls vs e, read-few (said ls vs) read)
+
+  pub doubled-said :
+      (b : Block) →
+      doubled (said ls vs) b
+      ≡ (twice (keys (others ls))
+      || twice (keys (groupsOf (byte "G") (said ls vs)))
+      || twice (keys (groupsOf (byte "M") (said ls vs)))
+      || movingCode b && (setsOrigin b || setsOffset b))
+  unfolding doubled gCodes mCodes
+  doubled-said b =
+      let ws = said ls vs in
+      let k : T (all letter ls) = T-of (sym (said-lettered ls vs e) ∙ read-lettered ws read) in
+      rw (others-said ws, said-letters ls vs e, letters-apart (others ls) (capitals ls k), g-groups-apart ws, m-groups-apart ws) refl
 
 -- ---- values
 pub word-ranged : (b : ℕ) (ws : List Said) → allRanged ws ≡ true → natAbs (word b ws .value .0) ≤ 999999999

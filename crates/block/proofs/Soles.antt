@@ -1,6 +1,6 @@
 -- Two results that one contract allows are equal.
 -- Assumes nothing.
-use mathlib.Core.Path.{_≡_, refl}
+use mathlib.Core.Path.{refl}
 use Rattle.laws.proofs.Sole.{Sole, alike}
 use Rattle.block.proofs.execute as execute
 

@@ -1,9 +1,9 @@
 -- Ways from an arc's centre: what the code works out on the plane's two axes is what number 14 says of its centre and radii.
 -- Assumes nothing.
 use mathlib.Core.Path.{_≡_, refl, sym, ap, _∙_}
-use mathlib.Core.Bool.{Bool, true, false, _&&_, _||_, and-true, and-eq-true-iff}
+use mathlib.Core.Bool.{Bool, true, _&&_, _||_, and-true, and-eq-true-iff}
 use mathlib.Core.List.{List, [], _∷_, map}
-use Prim.Native.Nat.{ℕ, _+_, _≤_}
+use Prim.Native.Nat.{ℕ}
 use native.Mathlib.Nat.{le-trans}
 use native.Mathlib.Omega.{arith}
 use lib.Dec.{eqb}
@@ -13,11 +13,12 @@ use borrow.Author.Tests.{leb-true, le-leb}
 use Rattle.rules.specs.Numbers.{within}
 use Rattle.rules.specs.Reach.{_less_, at, inReach}
 use Rattle.rules.specs.Steps.{target}
-use Rattle.rules.specs.Arcs.{planeAxes, centreAt, centre, square, squares, away, slack, badArc}
+use Rattle.rules.specs.Arcs.{planeAxes, centreAt, centre, slack, badArc}
 use Rattle.rules.specs.declared.Length.{Length}
 use Rattle.rules.specs.declared.Block.{Block}
 use Rattle.rules.specs.declared.Record.{Record}
 use Rattle.arcs.specs.Ways.{summed, measurable, tooUnequal}
+use Rattle.arcs.proofs.BadArc.{way, bad-arc}
 use Rattle.value.specs.Guarded.{saturated}
 use Rattle.block.specs.Judged.{ways}
 use Rattle.block.proofs.Bounds.{in-reach, less-under, two-axes}
@@ -60,7 +61,7 @@ module _ (place : List Length) (plane : ℕ) (cs : List Length) (near : inReach 
   pub way-is : _≡_ {A = List Length} (saturated (at seen 0 .0 -ℤ at cs 0 .0) ∷ saturated (at seen 1 .0 -ℤ at cs 1 .0) ∷ []) (ways seen cs)
   way-is = rw (difference 0, difference 1) (both-ways seen cs (plane-two (at place) plane) two)
 
--- ---- ways between places in reach can be measured, and their summed squares are the rules'
+-- ---- ways between places in reach can be measured
 ways-measurable : (ps cs : List Length) → inReach ps ≡ true → inReach cs ≡ true → measurable (ways ps cs) ≡ true
 ways-measurable [] cs e f = refl
 ways-measurable (p ∷ ps) [] e f = refl
@@ -71,28 +72,23 @@ ways-measurable (p ∷ ps) (c ∷ cs) e f =
     (less-under p c 1000000000 1000000000 (leb-true (natAbs (p .0)) 1000000000 (g .0)) (leb-true (natAbs (c .0)) 1000000000 (h .0))))
     (ways-measurable ps cs (g .1) (h .1))
 
-summed-is : (b : Block) (m : Record) (p : List Length) (is : List ℕ) → summed (ways (map (at p) is) (map (centreAt b m) is)) ≡ squares b m p is
-summed-is b m p [] = refl
-summed-is b m p (i ∷ is) = ap (λ (n : ℕ). square ((at p i less centreAt b m i) .0) + n) (summed-is b m p is)
+ways-mapped : (f g : ℕ → Length) (is : List ℕ) → ways (map f is) (map g is) ≡ map (λ (i : ℕ). f i less g i) is
+ways-mapped f g [] = refl
+ways-mapped f g (i ∷ is) = ap (λ (ls : List Length). (f i less g i) ∷ ls) (ways-mapped f g is)
 
-module _ (b : Block) (m : Record) (near : inReach (m .position) ≡ true) (far : inReach (target b m) ≡ true) (middle : inReach (centre b m) ≡ true) where
-  abbrev start : List Length
-  start = ways (map (at (m .position)) (planeAxes (m .plane))) (centre b m)
+module _ (b : Block) (m : Record) (middle : inReach (centre b m) ≡ true) where
+  abbrev wayTo : List Length → List Length
+  wayTo place = ways (map (at place) (planeAxes (m .plane))) (centre b m)
 
-  abbrev end : List Length
-  end = ways (map (at (target b m)) (planeAxes (m .plane))) (centre b m)
-
-  away-is : (p : List Length) → summed (ways (map (at p) (planeAxes (m .plane))) (centre b m)) ≡ away b m p
+  to-place : (place : List Length) → wayTo place ≡ way b m place
   unfolding centre
-  away-is p = summed-is b m p (planeAxes (m .plane))
+  to-place place = ways-mapped (at place) (centreAt b m) (planeAxes (m .plane))
 
-  pub bad-arc-is : (eqb (summed start) 0 || tooUnequal start end (slack (m .units))) ≡ badArc b m
-  unfolding badArc tooUnequal
-  bad-arc-is =
-      rw (
-        ways-measurable (map (at (m .position)) (planeAxes (m .plane))) (centre b m) (seen-reach (m .position) (planeAxes (m .plane)) near) middle,
-        ways-measurable (map (at (target b m)) (planeAxes (m .plane))) (centre b m) (seen-reach (target b m) (planeAxes (m .plane)) far) middle,
-        away-is (m .position),
-        away-is (target b m),
-      )
-      refl
+  to-measure : (place : List Length) → inReach place ≡ true → measurable (way b m place) ≡ true
+  to-measure place near =
+      ap measurable (sym (to-place place)) ∙ ways-measurable (map (at place) (planeAxes (m .plane))) (centre b m) (seen-reach place (planeAxes (m .plane)) near) middle
+
+  pub bad-arc-is : inReach (m .position) ≡ true → inReach (target b m) ≡ true
+      → (eqb (summed (wayTo (m .position))) 0 || tooUnequal (wayTo (m .position)) (wayTo (target b m)) (slack (m .units))) ≡ badArc b m
+  bad-arc-is near far =
+      rw (to-place (m .position), to-place (target b m)) (bad-arc b m (to-measure (m .position) near) (to-measure (target b m) far))

@@ -1,8 +1,8 @@
 -- What is left of a line's words, a record and an output space once the line is read: numbers 8 to 15, or the line's work.
 -- Assumes nothing.
-use mathlib.Core.Bool.{Bool, true, false, cond, not, _&&_, _||_}
-use mathlib.Core.List.{List, [], _∷_, _++_}
-use Prim.Native.Nat.{ℕ, _*_}
+use mathlib.Core.Bool.{Bool, true, cond, not, _&&_}
+use mathlib.Core.List.{List, [], _∷_}
+use Prim.Native.Nat.{ℕ}
 use lib.Dec.{eqb, ltb}
 use lib.ListN.{length}
 use lib.IntN.{ℤ}
@@ -11,17 +11,15 @@ use Rattle.rules.specs.Numbers.{inRange}
 use Rattle.rules.specs.Meaning.{Said}
 use Rattle.rules.specs.Block.{blockOf}
 use Rattle.rules.specs.Reach.{inOrder}
-use Rattle.rules.specs.Steps.{ready, left, motionOf}
-use Rattle.rules.specs.Arcs.{arcMove, badArc}
+use Rattle.rules.specs.Steps.{ready, left}
 use Rattle.rules.specs.Commands.{commands, written}
-use Rattle.rules.specs.Refusals.{_when_, first, refusals, Case, wrongWord, wrongMode, tooFar}
+use Rattle.rules.specs.Refusals.{_when_, first, refusals}
 use Rattle.rules.specs.Promise.{over}
 use Rattle.rules.specs.declared.Block.{Block}
 use Rattle.rules.specs.declared.Record.{Record}
 use Rattle.rules.specs.declared.Outcome.{Outcome}
 use Rattle.rules.specs.declared.Answer.{Answer}
 use Rattle.rules.specs.declared.Answer.the-variants.{Accepted, Refused}
-use Rattle.block.specs.Judged.{missingIn, idleIn}
 
 -- what a call leaves: its outcome, and the output space
 pub record Done : Type 0 where
@@ -40,23 +38,6 @@ doneBy n b r out =
 
 unfoldable pub executed : List Said → Record → List ℤ → Done
 executed ws r out = doneBy (first (refusals ws (blockOf ws) (ready (blockOf ws) r) (length out))) (blockOf ws) r out
-
--- numbers 10 and 11, by the plane and the mode of the line's motion
-abbrev pub early : Block → ℕ → ℕ → List Case
-early b plane motion =
-    (10 when (missingIn b plane motion || idleIn b plane motion))
-    ∷ (11 when wrongWord b) ∷ []
-
--- numbers 12 to 14, by the record as the motion step finds it
-abbrev pub late : Block → Record → List Case
-late b m =
-    (12 when wrongMode b m)
-    ∷ (13 when tooFar b m)
-    ∷ (14 when (arcMove b m && badArc b m)) ∷ []
-
--- numbers 10 to 15: what `refusals` has after numbers 8 and 9
-abbrev pub remaining : Block → Record → ℕ → List Case
-remaining b m room = early b (m .plane) (motionOf b m) ++ late b m ++ (15 when ltb room (8 * length (commands b m))) ∷ []
 
 -- every letter is one of a word's
 abbrev pub allLettered : List Said → Bool

@@ -1,7 +1,7 @@
 -- How commands are laid into the output space, one after the other.
 -- Assumes nothing.
 use mathlib.Core.Bool.{Bool, cond}
-use mathlib.Core.List.{List, [], _∷_, _++_}
+use mathlib.Core.List.{List, _++_}
 use Prim.Native.Nat.{ℕ, _+_}
 use lib.ListN.{length, take, drop}
 use lib.IntN.{ℤ}
@@ -19,12 +19,12 @@ abbrev pub behind : ℕ → List Command → ℕ
 behind at cs = at + length (written cs)
 
 -- one, where it is asked for
-abbrev pub once : Bool → ℕ
-once asked = cond asked 1 0
+abbrev pub oneIf : Bool → ℕ
+oneIf asked = cond asked 1 0
 
 -- how many commands a line has
 unfoldable pub howMany : Block → ℕ
 howMany b =
-    once (b .f .given) + once (b .s .given) + once (b .t .given)
-    + once (b .change .given) + once (b .spindle .given) + once (b .coolant .given)
-    + once (dwells b) + once (moves b) + once (b .stop .given)
+    oneIf (b .f .given) + oneIf (b .s .given) + oneIf (b .t .given)
+    + oneIf (b .change .given) + oneIf (b .spindle .given) + oneIf (b .coolant .given)
+    + oneIf (dwells b) + oneIf (moves b) + oneIf (b .stop .given)

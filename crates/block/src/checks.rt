@@ -10,9 +10,8 @@ ghost use Rattle.rules.specs.Steps.{target};
 ghost use Rattle.rules.specs.Arcs.{arcMove, badArc, centre, planeAxes};
 ghost use Rattle.rules.specs.Refusals.{below0, first, offPlane, outside, tooFar, wrongWord};
 ghost use Rattle.block.specs.Bounds.{Numbered, Ranged, Small};
-ghost use Rattle.block.specs.Execution.{early, late};
 ghost use Rattle.block.specs.Held.{wordAt};
-ghost use Rattle.block.specs.Judged.{arcIn, idleIn, missingIn, originIn, ways, wrongModeIn};
+ghost use Rattle.block.specs.Judged.{arcIn, early, idleIn, late, missingIn, originIn, ways, wrongModeIn};
 use super::marks::any_axis;
 use super::marks::arc_move;
 use super::marks::has;
@@ -148,13 +147,14 @@ fn idle(b: Block, plane: u16, motion: u16) -> bool
         | idle_offset(offsets, arc_in(b, motion), plane)
 }
 
+// The word is given, and below 0.
 fn below_zero(w: Word) -> bool
     ensures { λ r. ⌜ r ≡ below0 w ⌝ }
 {
     w.given & value::is_below_zero(w.value)
 }
 
-// It counts as no whole number, or as one below `low` or above `high`.
+// The word is given, and counts as no whole number from `low` to `high`.
 fn outside(low: u8, high: u8, w: Word) -> bool
     ensures { λ r. ⌜ r ≡ outside low high w ⌝ }
 {
@@ -167,7 +167,7 @@ fn outside(low: u8, high: u8, w: Word) -> bool
     false
 }
 
-// Number 11.
+// Number 11: F, S or G4's P is below 0, or T, L or G10's P is no whole number of its range.
 fn wrong_word(b: Block) -> bool
     ensures { λ r. ⌜ r ≡ wrongWord b ⌝ }
 {
@@ -180,7 +180,7 @@ fn wrong_word(b: Block) -> bool
         | (has(once, 100) & outside(1, 9, b.p))
 }
 
-// Number 12.
+// Number 12: a move in mode G80, G53 in another mode than G0 and G1, or a move at feed 0.
 fn wrong_mode(b: Block, motion: u16, feed: Length) -> bool
     ensures { λ r. ⌜ r ≡ wrongModeIn b motion feed ⌝ }
 {
@@ -190,7 +190,8 @@ fn wrong_mode(b: Block, motion: u16, feed: Length) -> bool
         | (moving & at_feed(motion) & value::is_zero_length(feed))
 }
 
-// Number 13. Nothing is worked out that the line does not ask for.
+// Number 13: the target, the centre, a new origin or a new offset is out of reach. Only what the
+// line asks for is worked out.
 fn too_far(b: Block, m: Record) -> bool
     requires { ⌜ Ranged b ⌝ }
     requires { ⌜ Small m ⌝ }
@@ -250,7 +251,7 @@ fn offset_too_far(once: Code, offset: [Length; 3]) -> bool
     has(once, 920) & !record::in_reach(offset)
 }
 
-// Number 14, where number 13 is not given.
+// Number 14, asked only where number 13 is not given: the squares of longer ways would not fit.
 fn bad_arc_move(b: Block, m: Record) -> bool
     requires { ⌜ Ranged b ⌝ }
     requires { ⌜ Small m ⌝ }

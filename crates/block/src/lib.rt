@@ -16,7 +16,8 @@ ghost use Rattle.rules.specs.Steps.{ready};
 ghost use Rattle.rules.specs.declared.Answer.the-variants.{Refused};
 ghost use Rattle.block.specs.Bounds.{Ranged};
 ghost use Rattle.block.specs.Held.{said};
-ghost use Rattle.block.specs.Execution.{doneBy, execution, remaining};
+ghost use Rattle.block.specs.Execution.{doneBy, execution};
+ghost use Rattle.block.specs.Judged.{remaining};
 use marks::or_else;
 use rules::Answer;
 use rules::Block;
@@ -45,11 +46,13 @@ pub fn execute(
     if number != 0 {
         return refused(number, rec);
     }
-    if words::unserved(letters, values) {
+    let b = words::summary(letters, values);
+    let unserved = words::unserved(letters, values);
+    let doubled = words::doubled(letters, values, b);
+    if unserved {
         return refused(8, rec);
     }
-    let b = words::summary(letters, values);
-    if words::doubled(letters, values, b) {
+    if doubled {
         return refused(9, rec);
     }
     work(b, rec, out)
@@ -89,8 +92,9 @@ fn work(b: Block, rec: Record, out: &mut [i64]) -> Outcome
         return refused(15, rec);
     }
     orders::write(b, m, out);
+    let after = steps::left(b, m);
     Outcome {
         answer: Answer::Accepted(count),
-        rec: steps::left(b, m),
+        rec: after,
     }
 }

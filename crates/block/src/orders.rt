@@ -7,11 +7,11 @@ ghost use lib.Dec.{eqb};
 ghost use lib.IntN.{pos};
 ghost use lib.ListN.{length};
 ghost use Rattle.rules.specs.Block.{moves};
-ghost use Rattle.rules.specs.Steps.{spindleOf, coolantOf};
+ghost use Rattle.rules.specs.Steps.{coolantOf};
 ghost use Rattle.rules.specs.Commands.{command, commands, moveCommand, eight, numbers, only, written};
 ghost use Rattle.rules.specs.Promise.{over};
 ghost use Rattle.block.specs.Bounds.{Ranged, Small};
-ghost use Rattle.block.specs.Laying.{behind, howMany, laid, once};
+ghost use Rattle.block.specs.Laying.{behind, howMany, laid, oneIf};
 use super::marks::arc_move;
 use super::marks::has;
 use super::marks::moves;
@@ -26,8 +26,8 @@ use rules::Record;
 use rules::Value;
 
 // One, where it is asked for.
-fn once(asked: bool) -> u64
-    ensures { λ r. ⌜ (r ≡ once asked) × (r ≤ 1) ⌝ }
+fn one_if(asked: bool) -> u64
+    ensures { λ r. ⌜ (r ≡ oneIf asked) × (r ≤ 1) ⌝ }
 {
     if asked {
         return 1;
@@ -39,15 +39,15 @@ fn once(asked: bool) -> u64
 pub(crate) fn count(b: Block) -> u64
     ensures { λ r. ⌜ r ≡ howMany b ⌝ }
 {
-    once(b.f.given)
-        + once(b.s.given)
-        + once(b.t.given)
-        + once(b.change.given)
-        + once(b.spindle.given)
-        + once(b.coolant.given)
-        + once(has(b.once, 40))
-        + once(moves(b))
-        + once(b.stop.given)
+    one_if(b.f.given)
+        + one_if(b.s.given)
+        + one_if(b.t.given)
+        + one_if(b.change.given)
+        + one_if(b.spindle.given)
+        + one_if(b.coolant.given)
+        + one_if(has(b.once, 40))
+        + one_if(moves(b))
+        + one_if(b.stop.given)
 }
 
 // A command without a field.

@@ -1,7 +1,7 @@
 // The words of a line, held side by side in two slices: whether a line can give them, the summary of
 // the line, and what numbers 8 and 9 ask of its words.
 ghost use mathlib.Core.Path.{_≡_};
-ghost use mathlib.Core.Bool.{true, _&&_, _||_};
+ghost use mathlib.Core.Bool.{_&&_, _||_};
 ghost use Prim.Native.Nat.{_≤_, min};
 ghost use lib.ListN.{length, take};
 ghost use Rattle.grammar.specs.Bytes.{among, all};
@@ -11,7 +11,7 @@ ghost use Rattle.rules.specs.Block.{word, blockOf, twice, setsOrigin, setsOffse
 ghost use Rattle.rules.specs.Refusals.{unserved, movingCode, doubled};
 ghost use Rattle.letters.specs.Keys.{keys};
 ghost use Rattle.block.specs.Held.{said, allInRange, codeAfter, groupAfter, codeOf, groupsOf};
-ghost use Rattle.block.specs.Execution.{allLettered, unread};
+ghost use Rattle.block.specs.Execution.{unread};
 use super::marks::has;
 use super::marks::moving_code;
 use rules::Block;
@@ -230,8 +230,7 @@ fn unserved_after(initial: u8, letters: &[u8], values: &[i64]) -> bool
 // Number 9: a letter stands twice, or two codes of a group, or G0 to G3 beside G10 or G92.
 pub(crate) fn doubled(letters: &[u8], values: &[i64], b: Block) -> bool
     requires { ⌜ length (now letters) ≡ length (now values) ⌝ }
-    requires { ⌜ length (now letters) ≤ 128 ⌝ }
-    requires { ⌜ allLettered (said (now letters) (now values)) ≡ true ⌝ }
+    requires { ⌜ unread (said (now letters) (now values)) ≡ 0 ⌝ }
     ensures { λ yes. ⌜ yes ≡ doubled (said (now (letters .entry)) (now (values .entry))) b ⌝ }
 {
     if letters::letter_twice(letters, letters.len()) {

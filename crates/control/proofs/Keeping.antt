@@ -35,7 +35,8 @@ use Rattle.block.specs.Held.{said}
 use Rattle.block.specs.Execution.{allLettered, allRanged, unread, Done, done, doneBy, executed, execution}
 use Rattle.control.specs.Worked.{settingsOf, tableAfter, finished, workedBy, worked}
 use Rattle.rules.proofs.Sound.{SoundTook, entries-sound}
-use Rattle.control.proofs.Words.{entries-lettered, entries-counted}
+use Rattle.reader.proofs.Demand3.{line-counts}
+use Rattle.control.proofs.Words.{entries-lettered}
 
 -- ---- what was stored is read back
 module _ {A : Type 0} where
@@ -171,9 +172,9 @@ module _ (line : List ℕ) (switch : Bool) (r : Record) (table out : List ℤ) (
         let e = lineEntries (arithmetic table) (lineOf sl n is) in
         let l : allLettered (words e) ≡ true = entries-lettered table is (d .ok .1) in
         let s : SoundTook e = entries-sound table is in
-        let c = entries-counted table is in
+        let c = line-counts table (lineOf sl n is) in
         let k = few d short in
-        rw (le-ltb 256 (length line) short) (go e l s (omega (arith, c .fewWords, k .0)) (omega (arith, c .fewSettings, k .1)) (stopOf e) refl)
+        rw (le-ltb 256 (length line) short) (go e l s (omega (arith, c .0, k .0)) (omega (arith, c .1, k .1)) (stopOf e) refl)
       where
         go : (e : Took Entry) → allLettered (words e) ≡ true → SoundTook e → length (words e) ≤ 128 → length (settings e) ≤ 64 → (o : Option ℕ) → stopOf e ≡ o → workedBy (outcome e) (stored e old) r table out ≡ answerTo (some e) line switch r table out
         go e l s w n none h = stored-answer e w n h ∙ sym (whole-answer e l s w h)

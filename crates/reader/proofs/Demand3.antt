@@ -77,7 +77,7 @@ module _ (t : List ℤ) where
       (omega (arith, counts is, k .words-more (entries (arithmetic t) is)), omega (arith, counts is, k .settings-more (entries (arithmetic t) is)))
   counts (comment bs ∷ is) = counts is
 
-  line-counts : (u : Line) → (length (words (lineEntries (arithmetic t) u)) ≤ wordCount (itemsOf u)) × (length (settings (lineEntries (arithmetic t) u)) ≤ settingCount (itemsOf u))
+  pub line-counts : (u : Line) → (length (words (lineEntries (arithmetic t) u)) ≤ wordCount (itemsOf u)) × (length (settings (lineEntries (arithmetic t) u)) ≤ settingCount (itemsOf u))
   line-counts (line s n is) = counts is
 
 -- stored from the front, and past that what was there

@@ -1,6 +1,8 @@
-use Rattle.block.specs.Judged.{arcIn}
+-- `block::checks::arc_in` meets its contract.
+-- Assumes nothing.
 use mathlib.Core.Path.{refl}
 use borrow.Author.Needs.{needs}
+use Rattle.block.specs.Judged.{arcIn}
 use Rattle.block.proofs.checks.arc_in.Statement.{statement}
 use Rattle.block.proofs.checks.arc_in.Tie as tie
 

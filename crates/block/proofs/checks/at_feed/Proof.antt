@@ -1,3 +1,5 @@
+-- `block::checks::at_feed` meets its contract.
+-- Assumes nothing.
 use mathlib.Core.Path.{refl}
 use borrow.Author.Needs.{needs}
 use Rattle.block.proofs.checks.at_feed.Statement.{statement}

@@ -1,6 +1,7 @@
-use Rattle.block.proofs.Ways.{bad-arc-is}
-use mathlib.Core.Path.{_≡_, refl, sym, ap, _∙_}
+-- `block::checks::bad_arc` meets its contract.
+-- Assumes nothing.
 use borrow.Author.Needs.{needs}
+use Rattle.block.proofs.Ways.{bad-arc-is}
 use Rattle.block.proofs.checks.bad_arc.Statement.{statement}
 use Rattle.block.proofs.checks.bad_arc.Tie as tie
 
@@ -14,7 +15,9 @@ target-requires : tie.Need-target-requires
 target-requires c κs = search needs
 
 way-requires-2 : tie.Need-way-requires-2
-way-requires-2 c κs = (rw (c .target .ensures) (c .before .before .before .before .pre .1 .1 .1 .0), rw (c .before .before .before .centre .ensures) (c .before .before .before .before .pre .1 .1 .1 .1))
+way-requires-2 c κs =
+    let s = c .before .before .before .before in
+    (rw (c .target .ensures) (s .pre .1 .1 .1 .0), rw (c .before .before .before .centre .ensures) (s .pre .1 .1 .1 .1))
 
 starts-at-centre-requires : tie.Need-starts-at-centre-requires
 starts-at-centre-requires c κs = search needs
@@ -26,7 +29,18 @@ radii-unequal-requires : tie.Need-radii-unequal-requires
 radii-unequal-requires c κs = search needs
 
 returns : tie.Need-returns
-returns c = rw (c .radii-unequal .ensures, c .before .slack .ensures, c .before .before .starts-at-centre .ensures, c .before .before .before .way2 .ensures, c .before .before .before .before .target .ensures, c .before .before .before .before .before .way .ensures, c .before .before .before .before .before .before .before .centre .ensures) (bad-arc-is (c .before .before .before .before .before .before .before .before .args .b) (c .before .before .before .before .before .before .before .before .args .m) (c .before .before .before .before .before .before .before .before .pre .1 .1 .0) (c .before .before .before .before .before .before .before .before .pre .1 .1 .1 .0) (c .before .before .before .before .before .before .before .before .pre .1 .1 .1 .1))
+returns c =
+    let s = c .before .before .before .before .before .before .before .before in
+    rw (
+      c .radii-unequal .ensures,
+      c .before .slack .ensures,
+      c .before .before .starts-at-centre .ensures,
+      c .before .before .before .way2 .ensures,
+      c .before .before .before .before .target .ensures,
+      c .before .before .before .before .before .way .ensures,
+      c .before .before .before .before .before .before .before .centre .ensures,
+    )
+    (bad-arc-is (s .args .b) (s .args .m) (s .pre .1 .1 .1 .1) (s .pre .1 .1 .0) (s .pre .1 .1 .1 .0))
 
 pub bad-arc-spec : {M : Type 1} → statement M
 bad-arc-spec =

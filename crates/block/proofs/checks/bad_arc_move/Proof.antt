@@ -1,6 +1,8 @@
-use Rattle.block.proofs.Judged.{reached}
+-- `block::checks::bad_arc_move` meets its contract.
+-- Assumes nothing.
 use mathlib.Core.Path.{refl, sym, _∙_}
 use borrow.Author.Needs.{needs}
+use Rattle.block.proofs.Judged.{reached}
 use Rattle.block.proofs.checks.bad_arc_move.Statement.{statement}
 use Rattle.block.proofs.checks.bad_arc_move.Tie as tie
 
@@ -8,7 +10,10 @@ arc-move-requires : tie.Need-arc-move-requires
 arc-move-requires c κs = search needs
 
 bad-arc-requires : tie.Need-bad-arc-requires
-bad-arc-requires c κs = let r = reached (c .before .before .args .b) (c .before .before .args .m) (c .before .before .pre .1 .1 .1) (sym (c .before .arc-move .ensures) ∙ c .if1 .taken) in (c .before .before .pre .0, (c .before .before .pre .1 .0, (c .before .before .pre .1 .1 .0, (r .0, r .1))))
+bad-arc-requires c κs =
+    let s = c .before .before in
+    let r = reached (s .args .b) (s .args .m) (s .pre .1 .1 .1) (sym (c .before .arc-move .ensures) ∙ c .if1 .taken) in
+    (s .pre .0, (s .pre .1 .0, (s .pre .1 .1 .0, (r .0, r .1))))
 
 returns : tie.Need-returns
 returns c = rw (sym (c .before .before .arc-move .ensures) ∙ c .before .if1 .taken) (c .bad-arc .ensures)

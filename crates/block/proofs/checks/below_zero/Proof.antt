@@ -1,3 +1,5 @@
+-- `block::checks::below_zero` meets its contract.
+-- Assumes nothing.
 use mathlib.Core.Path.{refl}
 use borrow.Author.Needs.{needs}
 use Rattle.block.proofs.checks.below_zero.Statement.{statement}

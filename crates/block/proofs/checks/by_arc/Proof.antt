@@ -1,6 +1,8 @@
+-- `block::checks::by_arc` meets its contract.
+-- Assumes nothing.
 use mathlib.Core.Path.{refl}
-use lib.Dec.{eqb}
 use mathlib.Core.Bool.{or-false}
+use lib.Dec.{eqb}
 use Rattle.block.proofs.checks.by_arc.Statement.{statement}
 use Rattle.block.proofs.checks.by_arc.Tie as tie
 

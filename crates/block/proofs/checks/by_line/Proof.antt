@@ -1,6 +1,8 @@
+-- `block::checks::by_line` meets its contract.
+-- Assumes nothing.
 use mathlib.Core.Path.{refl}
-use lib.Dec.{eqb}
 use mathlib.Core.Bool.{or-false}
+use lib.Dec.{eqb}
 use Rattle.block.proofs.checks.by_line.Statement.{statement}
 use Rattle.block.proofs.checks.by_line.Tie as tie
 

@@ -1,4 +1,6 @@
-use mathlib.Core.Path.{_≡_, refl, sym, ap, _∙_}
+-- `block::checks::centre_too_far` meets its contract.
+-- Assumes nothing.
+use mathlib.Core.Path.{refl, sym, _∙_}
 use borrow.Author.Needs.{needs}
 use Rattle.block.proofs.checks.centre_too_far.Statement.{statement}
 use Rattle.block.proofs.checks.centre_too_far.Tie as tie
@@ -13,7 +15,8 @@ both-in-reach-requires : tie.Need-both-in-reach-requires
 both-in-reach-requires c κs = search needs
 
 returns : tie.Need-returns
-returns c = rw (sym (c .before .before .before .arc-move .ensures) ∙ c .before .before .if1 .taken, c .both-in-reach .ensures, c .before .centre .ensures) refl
+returns c =
+    rw (sym (c .before .before .before .arc-move .ensures) ∙ c .before .before .if1 .taken, c .both-in-reach .ensures, c .before .centre .ensures) refl
 
 returns-2 : tie.Need-returns-2
 returns-2 c = rw (sym (c .before .arc-move .ensures) ∙ c .if1 .left) refl

@@ -1,3 +1,5 @@
+-- `block::checks::early` meets its contract.
+-- Assumes nothing.
 use mathlib.Core.Path.{refl, sym, _∙_}
 use borrow.Author.Needs.{needs}
 use Rattle.block.proofs.checks.early.Statement.{statement}
@@ -16,10 +18,24 @@ wrong-word-requires : tie.Need-wrong-word-requires
 wrong-word-requires c κs = search needs
 
 returns-2 : tie.Need-returns-2
-returns-2 c = rw (← c .before .before .before .before .missing .ensures, ← c .before .before .before .idle .ensures, c .before .before .if1 .left, sym (c .before .wrong-word .ensures) ∙ c .if2 .taken) refl
+returns-2 c =
+    rw (
+      ← c .before .before .before .before .missing .ensures,
+      ← c .before .before .before .idle .ensures,
+      c .before .before .if1 .left,
+      sym (c .before .wrong-word .ensures) ∙ c .if2 .taken,
+    )
+    refl
 
 returns-3 : tie.Need-returns-3
-returns-3 c = rw (← c .before .before .before .before .missing .ensures, ← c .before .before .before .idle .ensures, c .before .before .if1 .left, sym (c .before .wrong-word .ensures) ∙ c .if2 .left) refl
+returns-3 c =
+    rw (
+      ← c .before .before .before .before .missing .ensures,
+      ← c .before .before .before .idle .ensures,
+      c .before .before .if1 .left,
+      sym (c .before .wrong-word .ensures) ∙ c .if2 .left,
+    )
+    refl
 
 pub early-spec : {M : Type 1} → statement M
 early-spec =

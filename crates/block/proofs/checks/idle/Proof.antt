@@ -1,6 +1,8 @@
-use Rattle.block.specs.Judged.{idleIn}
+-- `block::checks::idle` meets its contract.
+-- Assumes nothing.
 use mathlib.Core.Path.{refl}
 use borrow.Author.Needs.{needs}
+use Rattle.block.specs.Judged.{idleIn}
 use Rattle.block.proofs.checks.idle.Statement.{statement}
 use Rattle.block.proofs.checks.idle.Tie as tie
 
@@ -18,7 +20,14 @@ idle-offset-requires c κs = search needs
 
 returns : tie.Need-returns
 unfolding idleIn
-returns c = rw (c .idle-offset .ensures, c .before .arc-in .ensures, c .before .before .before .before .has2 .ensures, c .before .before .before .before .before .has .ensures) refl
+returns c =
+    rw (
+      c .idle-offset .ensures,
+      c .before .arc-in .ensures,
+      c .before .before .before .before .has2 .ensures,
+      c .before .before .before .before .before .has .ensures,
+    )
+    refl
 
 pub idle-spec : {M : Type 1} → statement M
 idle-spec =

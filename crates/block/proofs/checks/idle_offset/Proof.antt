@@ -1,3 +1,5 @@
+-- `block::checks::idle_offset` meets its contract.
+-- Assumes nothing.
 use borrow.Author.Needs.{needs}
 use Rattle.block.proofs.checks.idle_offset.Statement.{statement}
 use Rattle.block.proofs.checks.idle_offset.Tie as tie

@@ -1,6 +1,8 @@
-use Rattle.block.specs.Judged.{missingIn}
+-- `block::checks::missing` meets its contract.
+-- Assumes nothing.
 use mathlib.Core.Path.{refl}
 use borrow.Author.Needs.{needs}
+use Rattle.block.specs.Judged.{missingIn}
 use Rattle.block.proofs.checks.missing.Statement.{statement}
 use Rattle.block.proofs.checks.missing.Tie as tie
 
@@ -33,7 +35,19 @@ on-plane-requires-2 c κs = search needs
 
 returns : tie.Need-returns
 unfolding missingIn
-returns c = rw (c .on-plane2 .ensures, c .before .on-plane .ensures, c .before .before .arc-in .ensures, c .before .before .before .any-axis .ensures, c .before .before .before .before .before .has4 .ensures, c .before .before .before .before .before .before .before .has3 .ensures, c .before .before .before .before .before .before .before .before .moving-code .ensures, c .before .before .before .before .before .before .before .before .before .has2 .ensures, c .before .before .before .before .before .before .before .before .before .before .has .ensures) refl
+returns c =
+    rw (
+      c .on-plane2 .ensures,
+      c .before .on-plane .ensures,
+      c .before .before .arc-in .ensures,
+      c .before .before .before .any-axis .ensures,
+      c .before .before .before .before .before .has4 .ensures,
+      c .before .before .before .before .before .before .before .has3 .ensures,
+      c .before .before .before .before .before .before .before .before .moving-code .ensures,
+      c .before .before .before .before .before .before .before .before .before .has2 .ensures,
+      c .before .before .before .before .before .before .before .before .before .before .has .ensures,
+    )
+    refl
 
 pub missing-spec : {M : Type 1} → statement M
 missing-spec =

@@ -1,9 +1,11 @@
-use Rattle.block.specs.Held.{wordAt}
+-- `block::checks::off_plane` meets its contract.
+-- Assumes nothing.
 use mathlib.Core.Path.{sym}
 use mathlib.Core.Bool.{or-false}
 use borrow.Author.Tests.{eq-eqb, ne-eqb}
-use Rattle.rules.specs.Arcs.{planeAxes}
 use borrow.Author.Needs.{needs}
+use Rattle.rules.specs.Arcs.{planeAxes}
+use Rattle.block.specs.Held.{wordAt}
 use Rattle.block.proofs.checks.off_plane.Statement.{statement}
 use Rattle.block.proofs.checks.off_plane.Tie as tie
 
@@ -19,14 +21,20 @@ array-copy-out-word-2 c = search needs
 
 returns-2 : tie.Need-returns-2
 unfolding planeAxes
-returns-2 c = rw (ne-eqb (c .before .before .before .args .plane) 170 (c .before .before .if1 .left), eq-eqb (c .before .before .before .args .plane) 180 (c .before .if2 .taken)) (sym (or-false (wordAt (c .before .before .before .args .t1) 1 .given)))
+returns-2 c =
+    let s = c .before .before .before in
+    rw (ne-eqb (s .args .plane) 170 (c .before .before .if1 .left), eq-eqb (s .args .plane) 180 (c .before .if2 .taken))
+    (sym (or-false (wordAt (s .args .t1) 1 .given)))
 
 array-copy-out-word-3 : tie.Need-array-copy-out-word-3
 array-copy-out-word-3 c = search needs
 
 returns-3 : tie.Need-returns-3
 unfolding planeAxes
-returns-3 c = rw (ne-eqb (c .before .before .before .args .plane) 170 (c .before .before .if1 .left), ne-eqb (c .before .before .before .args .plane) 180 (c .before .if2 .left)) (sym (or-false (wordAt (c .before .before .before .args .t1) 0 .given)))
+returns-3 c =
+    let s = c .before .before .before in
+    rw (ne-eqb (s .args .plane) 170 (c .before .before .if1 .left), ne-eqb (s .args .plane) 180 (c .before .if2 .left))
+    (sym (or-false (wordAt (s .args .t1) 0 .given)))
 
 pub off-plane-spec : {M : Type 1} → statement M
 off-plane-spec =

@@ -1,3 +1,5 @@
+-- `block::checks::offset_too_far` meets its contract.
+-- Assumes nothing.
 use mathlib.Core.Path.{refl}
 use borrow.Author.Needs.{needs}
 use Rattle.block.proofs.checks.offset_too_far.Statement.{statement}

@@ -1,10 +1,12 @@
+-- `block::checks::outside` meets its contract.
+-- Assumes nothing.
+use mathlib.Core.Path.{refl, sym, _∙_}
 use native.Mathlib.Omega.{arith}
-use mathlib.Core.Path.{_≡_, refl, sym, _∙_}
-use Rattle.laws.proofs.Ints.{back}
 use mir.Syntax.{w64}
 use mir.ValLaws.{toZ-pos}
-use Rattle.block.proofs.Tests.{outside-is}
 use borrow.Author.Needs.{needs}
+use Rattle.laws.proofs.Ints.{back}
+use Rattle.block.proofs.Tests.{outside-is}
 use Rattle.block.proofs.checks.outside.Statement.{statement}
 use Rattle.block.proofs.checks.outside.Tie as tie
 
@@ -24,7 +26,17 @@ enum-told : tie.Need-enum-told
 enum-told c = search needs
 
 returns : tie.Need-returns
-returns c = let n = c .before .n .given .0 .0 in rw (back n (record { sfits = c .known-told .given .0 .1 }), toZ-pos w64 (c .before .before .before .before .before .args .low) (omega arith), toZ-pos w64 (c .before .before .before .before .before .args .high) (omega arith), c .before .before .before .before .if1 .taken, sym (c .before .before .before .whole .ensures) ∙ c .before .n .given .1) (outside-is (c .before .before .before .before .before .args .low) (c .before .before .before .before .before .args .high) n)
+returns c =
+    let s = c .before .before .before .before .before in
+    let n = c .before .n .given .0 .0 in
+    rw (
+      back n (record { sfits = c .known-told .given .0 .1 }),
+      toZ-pos w64 (s .args .low) (omega arith),
+      toZ-pos w64 (s .args .high) (omega arith),
+      c .before .before .before .before .if1 .taken,
+      sym (c .before .before .before .whole .ensures) ∙ c .before .n .given .1,
+    )
+    (outside-is (s .args .low) (s .args .high) n)
 
 returns-2 : tie.Need-returns-2
 returns-2 c = rw (c .before .before .before .if1 .taken, sym (c .before .before .whole .ensures) ∙ c .enum-told .given .1) refl

@@ -1,6 +1,8 @@
-use Rattle.rules.specs.Refusals.{tooFar}
-use mathlib.Core.Path.{_≡_, refl, sym, ap, _∙_}
+-- `block::checks::too_far` meets its contract.
+-- Assumes nothing.
+use mathlib.Core.Path.{refl}
 use borrow.Author.Needs.{needs}
+use Rattle.rules.specs.Refusals.{tooFar}
 use Rattle.block.proofs.checks.too_far.Statement.{statement}
 use Rattle.block.proofs.checks.too_far.Tie as tie
 
@@ -18,7 +20,14 @@ offset-too-far-requires c κs = search needs
 
 returns : tie.Need-returns
 unfolding tooFar
-returns c = rw (c .offset-too-far .ensures, c .before .origin-too-far .ensures, c .before .before .centre-too-far .ensures, c .before .before .before .target-too-far .ensures) refl
+returns c =
+    rw (
+      c .offset-too-far .ensures,
+      c .before .origin-too-far .ensures,
+      c .before .before .centre-too-far .ensures,
+      c .before .before .before .target-too-far .ensures,
+    )
+    refl
 
 pub too-far-spec : {M : Type 1} → statement M
 too-far-spec =

@@ -1,5 +1,7 @@
-use Rattle.block.proofs.Ways.{way-is}
+-- `block::checks::way` meets its contract.
+-- Assumes nothing.
 use borrow.Author.Needs.{needs}
+use Rattle.block.proofs.Ways.{way-is}
 use Rattle.block.proofs.checks.way.Statement.{statement}
 use Rattle.block.proofs.checks.way.Tie as tie
 
@@ -25,7 +27,14 @@ subtract-requires-2 : tie.Need-subtract-requires-2
 subtract-requires-2 c κs = search needs
 
 returns : tie.Need-returns
-returns c = rw (c .subtract2 .ensures, c .before .before .before .subtract .ensures, c .before .before .before .before .before .before .in-plane .ensures) (way-is (c .before .before .before .before .before .before .before .args .place) (c .before .before .before .before .before .before .before .args .plane) (c .before .before .before .before .before .before .before .args .t3) (c .before .before .before .before .before .before .before .pre .0) (search needs) (c .before .before .before .before .before .before .before .pre .1))
+returns c =
+    let s = c .before .before .before .before .before .before .before in
+    rw (
+      c .subtract2 .ensures,
+      c .before .before .before .subtract .ensures,
+      c .before .before .before .before .before .before .in-plane .ensures,
+    )
+    (way-is (s .args .place) (s .args .plane) (s .args .t3) (s .pre .0) (search needs) (s .pre .1))
 
 pub way-spec : {M : Type 1} → statement M
 way-spec =

@@ -1,6 +1,8 @@
-use Rattle.block.specs.Judged.{wrongModeIn}
+-- `block::checks::wrong_mode` meets its contract.
+-- Assumes nothing.
 use mathlib.Core.Path.{refl}
 use borrow.Author.Needs.{needs}
+use Rattle.block.specs.Judged.{wrongModeIn}
 use Rattle.block.proofs.checks.wrong_mode.Statement.{statement}
 use Rattle.block.proofs.checks.wrong_mode.Tie as tie
 
@@ -21,7 +23,15 @@ is-zero-length-requires c κs = search needs
 
 returns : tie.Need-returns
 unfolding wrongModeIn
-returns c = rw (c .is-zero-length .ensures, c .before .at-feed .ensures, c .before .before .by-line .ensures, c .before .before .before .has .ensures, c .before .before .before .before .moves .ensures) refl
+returns c =
+    rw (
+      c .is-zero-length .ensures,
+      c .before .at-feed .ensures,
+      c .before .before .by-line .ensures,
+      c .before .before .before .has .ensures,
+      c .before .before .before .before .moves .ensures,
+    )
+    refl
 
 pub wrong-mode-spec : {M : Type 1} → statement M
 wrong-mode-spec =

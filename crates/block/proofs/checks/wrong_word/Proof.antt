@@ -1,6 +1,8 @@
-use Rattle.rules.specs.Refusals.{wrongWord}
+-- `block::checks::wrong_word` meets its contract.
+-- Assumes nothing.
 use mathlib.Core.Path.{refl}
 use borrow.Author.Needs.{needs}
+use Rattle.rules.specs.Refusals.{wrongWord}
 use Rattle.block.proofs.checks.wrong_word.Statement.{statement}
 use Rattle.block.proofs.checks.wrong_word.Tie as tie
 
@@ -30,7 +32,18 @@ outside-requires-3 c κs = search needs
 
 returns : tie.Need-returns
 unfolding wrongWord
-returns c = rw (c .outside3 .ensures, c .before .has2 .ensures, c .before .before .outside2 .ensures, c .before .before .before .outside .ensures, c .before .before .before .before .below-zero3 .ensures, c .before .before .before .before .before .has .ensures, c .before .before .before .before .before .before .below-zero2 .ensures, c .before .before .before .before .before .before .before .below-zero .ensures) refl
+returns c =
+    rw (
+      c .outside3 .ensures,
+      c .before .has2 .ensures,
+      c .before .before .outside2 .ensures,
+      c .before .before .before .outside .ensures,
+      c .before .before .before .before .below-zero3 .ensures,
+      c .before .before .before .before .before .has .ensures,
+      c .before .before .before .before .before .before .below-zero2 .ensures,
+      c .before .before .before .before .before .before .before .below-zero .ensures,
+    )
+    refl
 
 pub wrong-word-spec : {M : Type 1} → statement M
 wrong-word-spec =

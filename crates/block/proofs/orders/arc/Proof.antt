@@ -1,12 +1,14 @@
-use Rattle.block.proofs.Laying.{three, two}
+-- `block::orders::arc` meets its contract.
+-- Assumes nothing.
+use mathlib.Core.Path.{refl}
+use Prim.Native.Nat.{_/_}
 use native.Mathlib.Omega.{arith}
 use mir.Syntax.{w64}
 use mir.ValLaws.{toZ-pos}
-use Prim.Native.Nat.{_/_}
-use Rattle.rules.specs.Reach.{at}
-use Rattle.laws.proofs.Ints.{back}
-use mathlib.Core.Path.{_≡_, refl, sym, ap, _∙_}
 use borrow.Author.Needs.{needs}
+use Rattle.laws.proofs.Ints.{back}
+use Rattle.rules.specs.Reach.{at}
+use Rattle.block.proofs.Laying.{three, two}
 use Rattle.block.proofs.orders.arc.Statement.{statement}
 use Rattle.block.proofs.orders.arc.Tie as tie
 
@@ -32,7 +34,20 @@ array-copy-out-second : tie.Need-array-copy-out-second
 array-copy-out-second c = search needs
 
 returns : tie.Need-returns
-returns c = let to = c .before .before .before .before .before .before .before .before .before .before .args .t3 in let centre = c .before .before .before .before .before .before .before .before .before .before .args .t4 in rw (back (at to 0 .0) (search needs), back (at to 1 .0) (search needs), back (at to 2 .0) (search needs), back (at centre 0 .0) (search needs), back (at centre 1 .0) (search needs), toZ-pos w64 (c .before .before .before .before .before .before .before .before .before .before .args .motion / 10) (omega arith), toZ-pos w64 (c .before .before .before .before .before .before .before .before .before .before .args .plane / 10) (omega arith)) (rw (← three to (search needs), ← two centre (search needs)) refl)
+returns c =
+    let s = c .before .before .before .before .before .before .before .before .before .before in
+    let to = s .args .t3 in
+    let centre = s .args .t4 in
+    rw (
+      back (at to 0 .0) (search needs),
+      back (at to 1 .0) (search needs),
+      back (at to 2 .0) (search needs),
+      back (at centre 0 .0) (search needs),
+      back (at centre 1 .0) (search needs),
+      toZ-pos w64 (s .args .motion / 10) (omega arith),
+      toZ-pos w64 (s .args .plane / 10) (omega arith),
+    )
+    (rw (← three to (search needs), ← two centre (search needs)) refl)
 
 pub arc-spec : {M : Type 1} → statement M
 arc-spec =

@@ -1,5 +1,7 @@
-use borrow.Author.Tests.{eq-eqb, ne-eqb}
-use mathlib.Core.Path.{_≡_, refl, sym, ap, _∙_}
+-- `block::orders::coolant_of` meets its contract.
+-- Assumes nothing.
+use mathlib.Core.Path.{refl}
+use borrow.Author.Tests.{ne-eqb}
 use Rattle.block.proofs.orders.coolant_of.Statement.{statement}
 use Rattle.block.proofs.orders.coolant_of.Tie as tie
 

@@ -1,4 +1,6 @@
-use mathlib.Core.Path.{_≡_, refl, sym, ap, _∙_}
+-- `block::orders::move_command` meets its contract.
+-- Assumes nothing.
+use mathlib.Core.Path.{sym, _∙_}
 use borrow.Author.Needs.{needs}
 use Rattle.block.proofs.orders.move_command.Statement.{statement}
 use Rattle.block.proofs.orders.move_command.Tie as tie
@@ -19,7 +21,14 @@ arc-requires : tie.Need-arc-requires
 arc-requires c κs = search needs
 
 returns : tie.Need-returns
-returns c = rw (sym (c .before .before .before .before .arc-move .ensures) ∙ c .before .before .before .if1 .taken, ← c .before .before .before .before .before .or-else .ensures, ← c .before .before .target .ensures, ← c .before .centre .ensures) (c .arc .ensures)
+returns c =
+    rw (
+      sym (c .before .before .before .before .arc-move .ensures) ∙ c .before .before .before .if1 .taken,
+      ← c .before .before .before .before .before .or-else .ensures,
+      ← c .before .before .target .ensures,
+      ← c .before .centre .ensures,
+    )
+    (c .arc .ensures)
 
 target-requires-2 : tie.Need-target-requires-2
 target-requires-2 c κs = search needs
@@ -28,7 +37,13 @@ straight-requires : tie.Need-straight-requires
 straight-requires c κs = search needs
 
 returns-2 : tie.Need-returns-2
-returns-2 c = rw (sym (c .before .before .before .arc-move .ensures) ∙ c .before .before .if1 .left, ← c .before .before .before .before .or-else .ensures, ← c .before .target2 .ensures) (c .straight .ensures)
+returns-2 c =
+    rw (
+      sym (c .before .before .before .arc-move .ensures) ∙ c .before .before .if1 .left,
+      ← c .before .before .before .before .or-else .ensures,
+      ← c .before .target2 .ensures,
+    )
+    (c .straight .ensures)
 
 pub move-command-spec : {M : Type 1} → statement M
 move-command-spec =

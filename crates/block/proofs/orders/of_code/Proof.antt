@@ -1,7 +1,9 @@
+-- `block::orders::of_code` meets its contract.
+-- Assumes nothing.
+use mathlib.Core.Path.{refl}
 use native.Mathlib.Omega.{arith}
 use mir.Syntax.{w64}
 use mir.ValLaws.{toZ-pos}
-use mathlib.Core.Path.{_≡_, refl, sym, ap, _∙_}
 use borrow.Author.Needs.{needs}
 use Rattle.block.proofs.orders.of_code.Statement.{statement}
 use Rattle.block.proofs.orders.of_code.Tie as tie

@@ -1,7 +1,9 @@
-use Rattle.block.proofs.Laying.{laid-none}
+-- `block::orders::put_move` meets its contract.
+-- Assumes nothing.
+use mathlib.Core.Path.{sym, _∙_}
 use native.Mathlib.Nat.{add-zero}
-use mathlib.Core.Path.{_≡_, refl, sym, ap, _∙_}
 use borrow.Author.Needs.{needs}
+use Rattle.block.proofs.Laying.{laid-none}
 use Rattle.block.proofs.orders.put_move.Statement.{statement}
 use Rattle.block.proofs.orders.put_move.Tie as tie
 
@@ -12,16 +14,28 @@ move-command-requires : tie.Need-move-command-requires
 move-command-requires c κs = search needs
 
 put-requires : tie.Need-put-requires
-put-requires c κs = rw (sym (c .before .before .before .moves .ensures) ∙ c .before .before .if1 .taken, ← c .before .move-command .ensures) at (c .before .before .before .before .pre .1 .1)
+put-requires c κs =
+    rw (
+      sym (c .before .before .before .moves .ensures) ∙ c .before .before .if1 .taken,
+      ← c .before .move-command .ensures,
+    )
+    at (c .before .before .before .before .pre .1 .1)
 
 same-length : tie.Need-same-length
 same-length c = search needs
 
 returns : tie.Need-returns
-returns c = rw (sym (c .before .before .before .before .before .moves .ensures) ∙ c .before .before .before .before .if1 .taken, ← c .before .before .before .move-command .ensures) (c .before .put .ensures)
+returns c =
+    rw (
+      sym (c .before .before .before .before .before .moves .ensures) ∙ c .before .before .before .before .if1 .taken,
+      ← c .before .before .before .move-command .ensures,
+    )
+    (c .before .put .ensures)
 
 returns-2 : tie.Need-returns-2
-returns-2 c = rw (sym (c .before .moves .ensures) ∙ c .if1 .left) (sym (add-zero (c .before .before .args .at)), sym (laid-none (c .before .before .args .out .now) (c .before .before .args .at)))
+returns-2 c =
+    let s = c .before .before in
+    rw (sym (c .before .moves .ensures) ∙ c .if1 .left) (sym (add-zero (s .args .at)), sym (laid-none (s .args .out .now) (s .args .at)))
 
 pub put-move-spec : {M : Type 1} → statement M
 put-move-spec =

@@ -3,9 +3,9 @@
 use mathlib.Core.Path.{_≡_, ap, _∙_, subst}
 use mathlib.Core.List.{List}
 use Prim.Native.Nat.{ℕ}
-use borrow.Author.Needs.{needs}
 use lib.IntN.{ℤ}
 use lib.ListN.{length}
+use borrow.Author.Needs.{needs}
 use Rattle.rules.specs.Commands.{commands, written}
 use Rattle.rules.specs.Promise.{over}
 use Rattle.rules.specs.declared.Block.{Block}

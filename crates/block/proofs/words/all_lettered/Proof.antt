@@ -1,4 +1,4 @@
--- `block::words::all_lettered` meets its contract. Whether all are letters is decided by the bytes still ahead.
+-- `block::words::all_lettered` meets its contract. The loop's invariant: the bytes passed are letters, so those still ahead decide.
 -- Assumes nothing.
 use mathlib.Core.Path.{_≡_, refl, sym, _∙_}
 use Prim.Native.Nat.{_-_, _≤_}

@@ -1,4 +1,4 @@
--- `block::words::all_ranged` meets its contract. Whether all are in range is decided by the values still ahead.
+-- `block::words::all_ranged` meets its contract. The loop's invariant: the values passed are in range, so those still ahead decide.
 -- Assumes nothing.
 use mathlib.Core.Path.{_≡_, refl, sym, ap, _∙_}
 use Prim.Native.Nat.{_-_, _≤_}

@@ -1,4 +1,4 @@
--- `block::words::claimed_twice` meets its contract.
+-- `block::words::claimed_twice` meets its contract. The tests in order.
 -- Assumes nothing.
 use mathlib.Core.Path.{refl, sym, _∙_}
 use borrow.Author.Needs.{needs}

@@ -1,4 +1,4 @@
--- `block::words::code_after` meets its contract.
+-- `block::words::code_after` meets its contract. By the letter.
 -- Assumes nothing.
 use borrow.Author.Tests.{eq-eqb, ne-eqb}
 use borrow.Author.Needs.{needs}

@@ -1,4 +1,4 @@
--- `block::words::code_of` meets its contract. The code of the group is still ahead.
+-- `block::words::code_of` meets its contract. The loop's invariant: the line's code of the group is that of the words still ahead.
 -- Assumes nothing.
 use mathlib.Core.Logic.{⊎-elim}
 use mathlib.Core.Path.{_≡_, refl, sym, ap, _∙_}

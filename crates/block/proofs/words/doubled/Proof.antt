@@ -1,4 +1,4 @@
--- `block::words::doubled` meets its contract.
+-- `block::words::doubled` meets its contract. Number 9, by the keys of letters and groups, asked in order.
 -- Assumes nothing.
 use mathlib.Core.Path.{_≡_, refl, sym, ap, _∙_}
 use mathlib.Core.Bool.{Bool}
@@ -9,7 +9,7 @@ use lib.Seq.{take-length}
 use borrow.Author.Needs.{needs}
 use Rattle.rules.specs.Block.{twice}
 use Rattle.letters.specs.Keys.{keys, others}
-use Rattle.block.proofs.Readable.{doubled-said}
+use Rattle.block.proofs.Readable.{letters-few, doubled-said}
 use Rattle.block.proofs.words.doubled.Statement.{statement}
 use Rattle.block.proofs.words.doubled.Tie as tie
 
@@ -24,30 +24,30 @@ returns : tie.Need-returns
 returns c =
     let s = c .before .before .before in
     sym
-    (doubled-said (s .args .letters .now) (s .args .values .now) (s .args .b) (s .pre .0) (s .pre .1 .1)
+    (doubled-said (s .args .letters .now) (s .args .values .now) (s .pre .0) (s .pre .1) (s .args .b)
     ∙ rw (all-letters (s .args .letters .now) (c .before .letter-twice .ensures) ∙ c .if1 .taken) refl)
 
 group-twice-after-requires : tie.Need-group-twice-after-requires
-group-twice-after-requires c κs = search needs
+group-twice-after-requires c κs = let s = c .before .before .before in (s .pre .0, letters-few (s .args .letters .now) (s .args .values .now) (s .pre .0) (s .pre .1))
 
 returns-2 : tie.Need-returns-2
 returns-2 c =
     let s = c .before .before .before .before .before in
     sym
-    (doubled-said (s .args .letters .now) (s .args .values .now) (s .args .b) (s .pre .0) (s .pre .1 .1)
+    (doubled-said (s .args .letters .now) (s .args .values .now) (s .pre .0) (s .pre .1) (s .args .b)
     ∙ rw (
       all-letters (s .args .letters .now) (c .before .before .before .letter-twice .ensures) ∙ c .before .before .if1 .left,
       sym (c .before .group-twice-after .ensures) ∙ c .if2 .taken,
     ) refl)
 
 group-twice-after-requires-2 : tie.Need-group-twice-after-requires-2
-group-twice-after-requires-2 c κs = search needs
+group-twice-after-requires-2 c κs = let s = c .before .before .before .before .before in (s .pre .0, letters-few (s .args .letters .now) (s .args .values .now) (s .pre .0) (s .pre .1))
 
 returns-3 : tie.Need-returns-3
 returns-3 c =
     let s = c .before .before .before .before .before .before .before in
     sym
-    (doubled-said (s .args .letters .now) (s .args .values .now) (s .args .b) (s .pre .0) (s .pre .1 .1)
+    (doubled-said (s .args .letters .now) (s .args .values .now) (s .pre .0) (s .pre .1) (s .args .b)
     ∙ rw (
       all-letters (s .args .letters .now) (c .before .before .before .before .before .letter-twice .ensures) ∙ c .before .before .before .before .if1 .left,
       sym (c .before .before .before .group-twice-after .ensures) ∙ c .before .before .if2 .left,
@@ -61,7 +61,7 @@ returns-4 : tie.Need-returns-4
 returns-4 c =
     let s = c .before .before .before .before .before .before .before .before in
     sym
-    (doubled-said (s .args .letters .now) (s .args .values .now) (s .args .b) (s .pre .0) (s .pre .1 .1)
+    (doubled-said (s .args .letters .now) (s .args .values .now) (s .pre .0) (s .pre .1) (s .args .b)
     ∙ rw (
       all-letters (s .args .letters .now) (c .before .before .before .before .before .before .letter-twice .ensures) ∙ c .before .before .before .before .before .if1 .left,
       sym (c .before .before .before .before .group-twice-after .ensures) ∙ c .before .before .before .if2 .left,

@@ -1,4 +1,4 @@
--- `block::words::group_twice_after` meets its contract. The groups of the codes passed stand at the front of the space.
+-- `block::words::group_twice_after` meets its contract. The loop's invariant: the groups of the codes passed stand at the front of the space, in order.
 -- Assumes nothing.
 use mathlib.Core.Logic.{⊎-elim}
 use mathlib.Core.Path.{refl, ap, _∙_}

@@ -1,4 +1,4 @@
--- `block::words::unread` meets its contract.
+-- `block::words::unread` meets its contract. The three tests in order.
 -- Assumes nothing.
 use mathlib.Core.Path.{refl, sym, _∙_}
 use lib.ListN.{length}

@@ -1,4 +1,4 @@
--- `block::words::unserved` meets its contract.
+-- `block::words::unserved` meets its contract. After G, and then after M.
 -- Assumes nothing.
 use mathlib.Core.Path.{refl, sym, _∙_}
 use borrow.Author.Needs.{needs}

@@ -1,4 +1,4 @@
--- `block::words::unserved_after` meets its contract. A code that is not served is still ahead.
+-- `block::words::unserved_after` meets its contract. The loop's invariant: a code that is not served, if there is one, is among the words still ahead.
 -- Assumes nothing.
 use mathlib.Core.Logic.{⊎-elim}
 use mathlib.Core.Path.{_≡_, refl, sym, ap, _∙_}

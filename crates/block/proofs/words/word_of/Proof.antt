@@ -1,4 +1,4 @@
--- `block::words::word_of` meets its contract. The word that is wanted is still ahead.
+-- `block::words::word_of` meets its contract. The loop's invariant: the line's word of the letter is that of the words still ahead.
 -- Assumes nothing.
 use mathlib.Core.Path.{_≡_, refl, sym, ap, _∙_}
 use Prim.Native.Nat.{_-_, _≤_}
