@@ -120,7 +120,7 @@ static void item(size_t i, Places *ends) {
 }
 
 static uint32_t form(const uint8_t *line, size_t length) {
-    if (length > 256) return RS274_TOO_LONG;
+    if (length > RS274_LINE) return RS274_TOO_LONG;
     prepare(line, length);
     for (size_t i = 0; i <= text_length; i++) value_known[i] = 0;
     Places reached = {{0}};
@@ -220,13 +220,13 @@ static void lengths(void) {
     uint8_t bytes[400];
     for (size_t n = 250; n < 400; n++) {
         for (size_t i = 0; i < n; i++) bytes[i] = ' ';
-        hold(bytes, n, n <= 256 ? RS274_RIGHT : RS274_TOO_LONG);
+        hold(bytes, n, n <= RS274_LINE ? RS274_RIGHT : RS274_TOO_LONG);
         bytes[n - 1] = ')';
-        hold(bytes, n, n <= 256 ? RS274_WRONG : RS274_TOO_LONG);
+        hold(bytes, n, n <= RS274_LINE ? RS274_WRONG : RS274_TOO_LONG);
         for (size_t i = 0; i < n; i++) bytes[i] = i % 2 ? '7' : 'X';
-        hold(bytes, n, n > 256 ? RS274_TOO_LONG : n % 2 ? RS274_WRONG : RS274_RIGHT);
+        hold(bytes, n, n > RS274_LINE ? RS274_TOO_LONG : n % 2 ? RS274_WRONG : RS274_RIGHT);
         for (size_t i = 0; i < n; i++) bytes[i] = i == 0 ? 'X' : i <= n / 2 - 1 ? '[' : i == n / 2 ? '1' : ']';
-        if (n <= 256) hold_to_recogniser(bytes, n);
+        if (n <= RS274_LINE) hold_to_recogniser(bytes, n);
         else hold(bytes, n, RS274_TOO_LONG);
     }
 }

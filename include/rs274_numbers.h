@@ -1,0 +1,93 @@
+/*
+ * What a control and its panel say in common: the version, the longest line, and the numbers that a line
+ * carries, with their texts. rs274.h and rs274_panel.h include it.
+ */
+#ifndef RS274_NUMBERS_H
+#define RS274_NUMBERS_H
+
+#include <stdint.h>
+
+/* Hundreds go up when something that a firmware relies on changes its meaning, ones when something is added.
+   The headers and the libraries of one checkout belong together. */
+#define RS274_VERSION 100
+
+enum {
+    RS274_LINE = 256 /* the most bytes that a line may have, without its end marker */
+};
+
+/* The number that a line carries. Where several apply it is the lowest, but of 4 to 7 the first that is met while
+   the line's values are worked out. A skip is decided after 2: what else is wrong with the line is not looked for. */
+enum {
+    RS274_ACCEPTED = 0,
+    RS274_REFUSED_OUT_OF_ORDER = 1,
+    RS274_REFUSED_LENGTH = 2,
+    RS274_REFUSED_FORM = 3,
+    RS274_REFUSED_DECIMALS = 4,
+    RS274_REFUSED_RANGE = 5,
+    RS274_REFUSED_DIVISOR = 6,
+    RS274_REFUSED_PARAMETER = 7,
+    RS274_REFUSED_CODE = 8,
+    RS274_REFUSED_TWICE = 9,
+    RS274_REFUSED_WORDS = 10,
+    RS274_REFUSED_WORD_VALUE = 11,
+    RS274_REFUSED_MOVE = 12,
+    RS274_REFUSED_REACH = 13,
+    RS274_REFUSED_ARC = 14,
+    RS274_REFUSED_ROOM = 15,
+    RS274_SKIPPED = 100
+};
+
+/* Why a line carries its number, as words that can follow a colon. Never null. */
+static inline const char *rs274_why(uint32_t number) {
+    switch (number) {
+    case RS274_ACCEPTED: return "the line is accepted";
+    case RS274_REFUSED_OUT_OF_ORDER: return "the session's record or the parameter table is out of order";
+    case RS274_REFUSED_LENGTH: return "the line has more than 256 bytes";
+    case RS274_REFUSED_FORM: return "the line is of wrong form";
+    case RS274_REFUSED_DECIMALS: return "a number has more than four digits after its point, zeros counted";
+    case RS274_REFUSED_RANGE: return "a value written, worked out or read from a parameter is beyond 99999.9999";
+    case RS274_REFUSED_DIVISOR: return "a divisor of / or MOD is zero";
+    case RS274_REFUSED_PARAMETER: return "a parameter number is not a whole number from 1 to 4999";
+    case RS274_REFUSED_CODE: return "a G or M code is not served";
+    case RS274_REFUSED_TWICE:
+        return "a letter stands twice, two codes are of one group, or G0 to G3 stands beside G10 or G92";
+    case RS274_REFUSED_WORDS: return "a word that is needed is missing, or a word has no use on this line";
+    case RS274_REFUSED_WORD_VALUE: return "F, S, P, T or L has a value that it cannot have";
+    case RS274_REFUSED_MOVE: return "a move in mode G80, a move by G1 to G3 at feed 0, or G53 without G0 or G1";
+    case RS274_REFUSED_REACH: return "a target, centre, origin or offset is beyond 1000000000 counts, which are 10 m";
+    case RS274_REFUSED_ARC: return "an arc starts at its centre, or its end is not as far from the centre as its start";
+    case RS274_REFUSED_ROOM: return "the output space is too short for the line's commands";
+    case RS274_SKIPPED: return "the line is skipped, since it begins with / and block delete is on";
+    default: return "no line carries this number";
+    }
+}
+
+/* What whoever wrote the program, or the firmware, can do about a refusal. Never null. */
+static inline const char *rs274_remedy(uint32_t number) {
+    switch (number) {
+    case RS274_REFUSED_OUT_OF_ORDER:
+        return "begin the record with RS274_FRESH, keep its fields in their ranges, and lend a table of 5000 entries";
+    case RS274_REFUSED_LENGTH: return "write it as two lines";
+    case RS274_REFUSED_FORM:
+        return "look for a letter that begins no word, a bracket or comment left open, a sign before a bracket or a"
+               " parameter, or a line end handed over with the line";
+    case RS274_REFUSED_DECIMALS: return "write four digits at most after the point";
+    case RS274_REFUSED_RANGE: return "keep every value, and every step of an expression, from -99999.9999 to 99999.9999";
+    case RS274_REFUSED_DIVISOR: return "see that what stands after / or MOD cannot come to zero";
+    case RS274_REFUSED_PARAMETER: return "use parameters 1 to 4999";
+    case RS274_REFUSED_CODE: return "use a code that this control serves";
+    case RS274_REFUSED_TWICE: return "write it as two lines";
+    case RS274_REFUSED_WORDS:
+        return "G4 needs P; G10 needs L and P; G92, G53 and G0 to G3 need an axis word; an arc needs an axis word and"
+               " one of I J K, of its plane; take out what none of these uses";
+    case RS274_REFUSED_WORD_VALUE:
+        return "F, S and the P of G4 are not below 0, T is whole from 0 to 99, L is 2, the P of G10 is whole from 1 to 9";
+    case RS274_REFUSED_MOVE: return "give G0, G1 or a feed by F first; use G53 with G0 or G1";
+    case RS274_REFUSED_REACH: return "look at the units, the origin and the G92 offset in force";
+    case RS274_REFUSED_ARC: return "the two radii may differ by 0.002 mm, under G20 by 0.0002 inch: look at I J K and the end";
+    case RS274_REFUSED_ROOM: return "lend RS274_COMMANDS times RS274_COMMAND numbers of output space";
+    default: return "nothing is to be done";
+    }
+}
+
+#endif

@@ -1,0 +1,102 @@
+/*
+ * How much stack the libraries need: each call runs on a stack of its own, all of it painted before, and the
+ * deepest byte that has lost its paint tells. The lines are plain ones, the fullest ones, and for each way in which
+ * values nest the deepest that 256 bytes can hold, right and wrong. No need may be more than the headers say.
+ */
+#include <stdio.h>
+#include <string.h>
+
+#include "rs274.h"
+#include "rs274_panel.h"
+
+enum { ROOM = 1 << 20, PAINT = 0xA5 };
+
+static unsigned char room[ROOM] __attribute__((aligned(16)));
+static uint8_t line[RS274_LINE];
+static size_t line_length;
+static int64_t rec[RS274_RECORD], table[RS274_TABLE], out[RS274_COMMANDS * RS274_COMMAND];
+static uint32_t number;
+
+static void work(void) {
+    number = rs274_line(line, line_length, false, rec, RS274_RECORD, table, RS274_TABLE,
+                        out, sizeof out / sizeof *out).number;
+}
+
+static void look(void) { number = rs274_form(line, line_length); }
+
+/* The bytes that a call has written to, of a painted stack. */
+static size_t depth(void (*call)(void)) {
+    size_t kept = 0;
+    memset(room, PAINT, ROOM);
+    __asm__ volatile("movq %%rsp, %%rbx\n\tmovq %0, %%rsp\n\tcallq *%1\n\tmovq %%rbx, %%rsp"
+                     : : "r"(room + ROOM), "r"(call)
+                     : "rbx", "rax", "rcx", "rdx", "rsi", "rdi", "r8", "r9", "r10", "r11", "cc", "memory",
+                       "xmm0", "xmm1", "xmm2", "xmm3", "xmm4", "xmm5", "xmm6", "xmm7",
+                       "xmm8", "xmm9", "xmm10", "xmm11", "xmm12", "xmm13", "xmm14", "xmm15");
+    while (kept < ROOM && room[kept] == PAINT) kept++;
+    return ROOM - kept;
+}
+
+/* A line of opening, then a middle as often as it fits beside its closing, then a core and the closings. */
+static void nest(const char *opening, const char *middle, const char *core, const char *closing) {
+    size_t m = strlen(middle), c = strlen(closing), used = strlen(opening) + strlen(core);
+    size_t times = (RS274_LINE - used) / (m + c);
+    uint8_t *to = line;
+    memcpy(to, opening, strlen(opening));
+    to += strlen(opening);
+    for (size_t i = 0; i < times; i++, to += m) memcpy(to, middle, m);
+    memcpy(to, core, strlen(core));
+    to += strlen(core);
+    for (size_t i = 0; i < times; i++, to += c) memcpy(to, closing, c);
+    line_length = (size_t)(to - line);
+}
+
+static const struct {
+    const char *name, *opening, *middle, *core, *closing;
+} lines[] = {
+    {"plain", "G1 X12.5 Y-3 F300", " ", "", ""},
+    {"every command", "F100 S1 T2 M6 M3 M8 G4 P1 G17 G21 G54 G90 X1 Y1 Z1 M2", " ", "", ""},
+    {"arc", "G2 X1 I0.5 F100", " ", "", ""},
+    {"most words", "", "X1", "", ""},
+    {"most settings", "", "#1=1", "", ""},
+    {"brackets", "X", "[", "1", "]"},
+    {"parameters", "X", "#", "1", ""},
+    {"parameters and brackets", "X", "#[", "1", "]"},
+    {"functions", "X", "ABS[", "1", "]"},
+    {"sums", "X", "[1+", "1", "]"},
+    {"products", "X", "[1*", "1", "]"},
+    {"sums of products", "X", "[1+1*", "1", "]"},
+    {"left settings", "", "#", "1=1", ""},
+    {"right settings", "#1=", "[", "1", "]"},
+    {"open brackets", "X", "[", "", ""},
+    {"open brackets of a setting", "#", "[", "", ""},
+    {"open functions", "X", "ABS[", "", ""},
+    {"open sums", "X", "[1+", "", ""},
+    {"open parameters and brackets", "X", "#[", "", ""},
+    {"parameters of nothing", "X", "#", "", ""},
+};
+
+static void begin(void) {
+    rs274_fresh(rec);
+    rec[RS274_MOTION] = RS274_MODE_G0;
+    memset(table, 0, sizeof table);
+    table[1] = RS274_ONE; /* so that ##..#1 is a value */
+}
+
+int main(void) {
+    size_t most_line = 0, most_form = 0;
+    for (size_t i = 0; i < sizeof lines / sizeof *lines; i++) {
+        nest(lines[i].opening, lines[i].middle, lines[i].core, lines[i].closing);
+        begin();
+        size_t line_need = depth(work);
+        uint32_t answer = number;
+        size_t form_need = depth(look);
+        printf("%-28s rs274_line %2u: %5zu bytes, rs274_form %u: %5zu bytes\n", lines[i].name,
+               (unsigned)answer, line_need, (unsigned)number, form_need);
+        if (line_need > most_line) most_line = line_need;
+        if (form_need > most_form) most_form = form_need;
+    }
+    printf("stack: rs274_line %zu of %d bytes, rs274_form %zu of %d bytes\n", most_line, RS274_STACK, most_form,
+           RS274_FORM_STACK);
+    return most_line > RS274_STACK || most_form > RS274_FORM_STACK ? 1 : 0;
+}
