@@ -1,53 +1,117 @@
 /*
- * A session of a control: lines from standard input, from a fresh record, and what each comes to.
- * A refused line changes nothing, and the session goes on.
+ * A session of a control: the lines of a program on standard input, worked from a fresh record, and what each
+ * has the machine do. Where a firmware would drive the machine, this prints.
+ *
+ * The first refused line ends the session, since the lines after it were written for a machine that has worked
+ * it: after G1 Z-3, a refused G0 Z5.12345 and then G0 X0 Y0 would be a rapid through the work. Which line it is,
+ * counted from 1, and why, is told on standard error, and the exit status is 1.
  */
+#include <inttypes.h>
+#include <stdbool.h>
+#include <stddef.h>
+#include <stdint.h>
+#include <stdio.h>
+
 #include "rs274.h"
 
-int getchar(void);
-int printf(const char *, ...);
-
-static int64_t rec[RS274_RECORD];
+static int64_t rec[RS274_RECORD] = RS274_FRESH;
 static int64_t table[RS274_TABLE];
 static int64_t out[RS274_COMMANDS * RS274_COMMAND];
+static bool block_delete; /* the operator's switch */
 
-/* A fresh record: zeros, G80 G17 G90 G21 G54. */
-static void start(void) {
-    rec[RS274_MOTION] = 800;
-    rec[RS274_PLANE] = 170;
-    rec[RS274_DISTANCE] = 900;
-    rec[RS274_UNITS] = 210;
-    rec[RS274_SYSTEM] = 540;
+/* ---- what the machine is to do */
+
+static void spindle(int64_t turn) {
+    if (turn == RS274_SPINDLE_OFF) printf("spindle off\n");
+    else printf("spindle %s\n", turn == RS274_SPINDLE_CLOCKWISE ? "clockwise" : "counterclockwise");
 }
 
-static void show(struct rs274_answer answer) {
-    if (answer.number != RS274_ACCEPTED) {
-        printf("%s %lu\n", answer.number == RS274_SKIPPED ? "skipped" : "refused", (unsigned long)answer.number);
-        return;
+/* Mist and flood are switched on each by itself, and off together. */
+static void coolant(int64_t which) {
+    if (which == RS274_COOLANT_OFF) printf("coolant off\n");
+    else printf("coolant %s on\n", which == RS274_COOLANT_MIST ? "mist" : "flood");
+}
+
+static void move(const char *how, const int64_t *command) {
+    printf("%s to X%" PRId64 " Y%" PRId64 " Z%" PRId64 "\n", how,
+           command[RS274_MOVE_X], command[RS274_MOVE_Y], command[RS274_MOVE_Z]);
+}
+
+static void arc(const int64_t *command) {
+    int64_t plane = command[RS274_ARC_PLANE];
+    char first = plane == RS274_ARC_YZ ? 'Y' : 'X';
+    char second = plane == RS274_ARC_XY ? 'Y' : 'Z';
+    printf("arc %s to X%" PRId64 " Y%" PRId64 " Z%" PRId64 " around %c%" PRId64 " %c%" PRId64 "\n",
+           command[RS274_ARC_TURN] == RS274_ARC_CLOCKWISE ? "clockwise" : "counterclockwise",
+           command[RS274_ARC_X], command[RS274_ARC_Y], command[RS274_ARC_Z],
+           first, command[RS274_ARC_CENTRE_1], second, command[RS274_ARC_CENTRE_2]);
+}
+
+/* The end of a program stops spindle and coolant too: no other command says so. */
+static void stop(int64_t code) {
+    bool ends = code == RS274_STOP_M2 || code == RS274_STOP_M30;
+    printf("stop M%" PRId64 "%s\n", code, ends ? ", spindle and coolant off" : "");
+}
+
+/* One command. False where this control does not know its kind, and so must not go on. */
+static bool act(const int64_t *command) {
+    switch (command[RS274_KIND]) {
+    case RS274_KIND_FEED: printf("feed %" PRId64 "\n", command[RS274_FEED_RATE]); return true;
+    case RS274_KIND_SPEED: printf("speed %" PRId64 "\n", command[RS274_SPEED_RATE]); return true;
+    case RS274_KIND_SELECT_TOOL: printf("select tool %" PRId64 "\n", command[RS274_SELECT_TOOL]); return true;
+    case RS274_KIND_CHANGE_TOOL: printf("change tool, spindle off\n"); return true;
+    case RS274_KIND_SPINDLE: spindle(command[RS274_SPINDLE_TURN]); return true;
+    case RS274_KIND_COOLANT: coolant(command[RS274_COOLANT_SWITCH]); return true;
+    case RS274_KIND_DWELL: printf("dwell %" PRId64 "\n", command[RS274_DWELL_TIME]); return true;
+    case RS274_KIND_RAPID: move("rapid", command); return true;
+    case RS274_KIND_FEED_MOVE: move("feed", command); return true;
+    case RS274_KIND_ARC: arc(command); return true;
+    case RS274_KIND_STOP: stop(command[RS274_STOP_CODE]); return true;
+    default: return false;
     }
-    printf("accepted %llu\n", (unsigned long long)answer.count);
+}
+
+/* ---- the lines */
+
+static bool refuse(unsigned long place, uint32_t number) {
+    fprintf(stderr, "session: line %lu is refused with number %" PRIu32 ": %s; %s\n", place, number,
+            rs274_why(number), rs274_remedy(number));
+    return false;
+}
+
+/* One line, at its place in the program. False where the session must end. */
+static bool work(unsigned long place, const uint8_t *line, size_t length) {
+    struct rs274_answer answer = rs274_line(line, length, block_delete, rec, RS274_RECORD,
+                                            table, RS274_TABLE, out, sizeof out / sizeof *out);
+    if (answer.number != RS274_ACCEPTED && answer.number != RS274_SKIPPED) return refuse(place, answer.number);
     for (size_t i = 0; i < answer.count; i++) {
-        for (size_t k = 0; k < RS274_COMMAND; k++) printf(" %lld", (long long)out[RS274_COMMAND * i + k]);
-        printf("\n");
+        if (act(out + RS274_COMMAND * i)) continue;
+        fprintf(stderr, "session: line %lu has a command of a kind that is not known here\n", place);
+        return false;
     }
+    if (fflush(stdout) == 0) return true;
+    fprintf(stderr, "session: what line %lu does could not be written\n", place);
+    return false;
 }
 
-static void work(const uint8_t *line, size_t length) {
-    show(rs274_line(line, length, false, rec, RS274_RECORD, table, RS274_TABLE, out, sizeof out / sizeof *out));
-}
-
+/* Lines end at a line feed, and one carriage return before it is dropped. A last line without a line feed
+   counts if it has a byte. What is cut off a long line is past the bytes that make it too long. */
 int main(void) {
-    static uint8_t line[512]; /* what is cut off is past the 256 bytes that a line may have */
+    static uint8_t line[RS274_LINE + 2]; /* a byte too many, and a carriage return */
     size_t length = 0;
-    start();
-    for (int byte = getchar(); byte >= 0; byte = getchar()) {
-        if (byte == '\n') {
-            work(line, length);
-            length = 0;
-        } else if (length < sizeof line) {
-            line[length++] = (uint8_t)byte;
+    unsigned long place = 1;
+    for (int byte = getchar(); byte != EOF; byte = getchar()) {
+        if (byte != '\n') {
+            if (length < sizeof line) line[length++] = (uint8_t)byte;
+            continue;
         }
+        if (length > 0 && line[length - 1] == '\r') length--;
+        if (!work(place++, line, length)) return 1;
+        length = 0;
     }
-    if (length > 0) work(line, length);
-    return 0;
+    if (ferror(stdin)) {
+        fprintf(stderr, "session: line %lu could not be read\n", place);
+        return 1;
+    }
+    return length == 0 || work(place, line, length) ? 0 : 1;
 }
