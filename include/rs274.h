@@ -131,7 +131,8 @@ enum {
     RS274_MOVE_Y = 2,
     RS274_MOVE_Z = 3,
 
-    RS274_KIND_ARC = 10,    /* a circular arc at the feed; the axis off its plane goes along evenly */
+    RS274_KIND_ARC = 10,    /* a circular arc at the feed, a whole circle where its end in the plane is its start; */
+                            /* the axis off the plane goes along evenly (NGC) */
     RS274_ARC_TURN = 1,     /* RS274_ARC_CLOCKWISE or COUNTERCLOCKWISE */
     RS274_ARC_PLANE = 2,    /* RS274_ARC_XY, XZ or YZ: 17, 18 or 19, and not 170, 180 or 190 as in the record */
     RS274_ARC_X = 3,        /* where it ends */
