@@ -1,6 +1,7 @@
 /*
  * Cases on standard input, one a line, and on standard output what rs274_line leaves of each: the columns are
- * those of tests/second/README.md, so that the second program's answers can be held beside them.
+ * those of tests/second/README.md, so that the second program's answers can be held beside them. A case that
+ * cannot be read is answered with "no case", and then the exit status is 1.
  */
 #include "rs274.h"
 
@@ -26,15 +27,17 @@ static int64_t out[MOST_NUMBERS];
 
 /* ---- reading a case */
 
-/* The next line of text; a last one without a line feed counts if it has a byte. */
+/* The next line of text; a last one without a line feed counts if it has a byte. One that is too long to be
+   held is left empty, which is no case. */
 static bool next_text(void) {
     size_t length = 0;
     int byte = getchar();
     if (byte < 0) return false;
     for (; byte >= 0 && byte != '\n'; byte = getchar()) {
-        if (length < MOST_TEXT) text[length++] = (char)byte;
+        if (length < MOST_TEXT) text[length] = (char)byte;
+        if (length <= MOST_TEXT) length++;
     }
-    text[length] = 0;
+    text[length <= MOST_TEXT ? length : 0] = 0;
     at = text;
     return true;
 }
@@ -159,14 +162,16 @@ static void put_answer(struct rs274_answer answer, const struct lent *lent) {
 }
 
 int main(void) {
+    int status = 0;
     while (next_text()) {
         struct lent lent;
         if (!take_case(&lent)) {
             printf("no case\n");
+            status = 1;
             continue;
         }
         put_answer(rs274_line(line, lent.line_length, lent.block_delete, rec, RS274_RECORD,
                               table, lent.table_length, out, lent.room), &lent);
     }
-    return 0;
+    return status;
 }

@@ -1,8 +1,12 @@
-//! The examples of document 01 and of its readings, as tables, run by `second examples`.
-//! Lines worked beforehand are parted by `|`; each must be accepted.
+//! The examples of document 01 and of its readings, as tables. `second examples` runs them; each is also a case
+//! whose answer, by whatever program, is held to what stands here. Lines worked beforehand are parted by `|`;
+//! each must be accepted.
 
+use crate::cases::{self, Answer, Case};
 use crate::rules::{self, Reading, Record, TABLE_LENGTH};
-use std::io::{self, Write};
+use std::fs;
+use std::io::{self, BufRead, Write};
+use std::path::Path;
 
 /// Form only: a line and 0 or 3.
 const FORMS: &[(&[u8], u8)] = &[
@@ -519,27 +523,7 @@ const FRAMES: &[(&str, &str)] = &[
     ("F100\nG3 X1 I0.5\n", "010000989680\n0A0000000003000000001100000186A000000000000000000000000000C3500000000000\n"),
 ];
 
-/// A session: a fresh record and an all-zero table, with the lines before it worked.
-struct Session {
-    record: Record,
-    table: Vec<i64>,
-}
-
-impl Session {
-    fn after(before: &str) -> Option<Session> {
-        let mut session = Session { record: Record::fresh(), table: vec![0; TABLE_LENGTH] };
-        let all_accepted = before.split('|').all(|line| session.work(line).0 == 0);
-        all_accepted.then_some(session)
-    }
-
-    /// A line's number and commands.
-    fn work(&mut self, line: &str) -> (u8, Vec<i64>) {
-        let mut space = vec![0; 80];
-        let (number, count) = rules::interpret(line.as_bytes(), false, &mut self.record, &mut self.table, &mut space);
-        space.truncate(8 * count);
-        (number, space)
-    }
-}
+// ---------------------------------------------------------------- Held to the rules alone
 
 fn form_holds(&(line, number): &(&[u8], u8)) -> bool {
     rules::form(line) == number
@@ -557,43 +541,80 @@ fn value_holds((text, expected): &(&str, Result<i64, u8>)) -> bool {
     }
 }
 
-fn number_holds(&(before, line, number): &(&str, &str, u8)) -> bool {
-    Session::after(before).is_some_and(|mut session| session.work(line).0 == number)
-}
-
-fn commands_hold(&(before, line, commands): &(&str, &str, &[[i64; 8]])) -> bool {
-    Session::after(before).is_some_and(|mut session| session.work(line) == (0, commands.concat()))
-}
-
-fn field_holds(&(before, line, place, number): &(&str, &str, usize, i64)) -> bool {
-    Session::after(before).is_some_and(|mut session| {
-        session.work(line);
-        session.record.to_numbers()[place] == number
-    })
-}
-
-fn entry_holds(&(before, line, number, value): &(&str, &str, usize, i64)) -> bool {
-    Session::after(before).is_some_and(|mut session| {
-        session.work(line);
-        session.table[number] == value
-    })
-}
-
 fn frames_hold(&(input, expected): &(&str, &str)) -> bool {
     let mut written = Vec::new();
-    crate::frames(input.as_bytes(), &mut written).is_ok() && written == expected.as_bytes()
+    crate::frames(input.as_bytes(), &mut written, "").is_ok() && written == expected.as_bytes()
 }
 
-/// A line with the switch, one change to the fresh record, a table and the room, and its answer;
-/// every refusal and skip must leave all that is lent unchanged.
-struct Lent {
-    line: Vec<u8>,
-    switch: bool,
-    field: (usize, i64),
-    entry: (usize, i64),
-    length: usize,
-    room: usize,
-    number: u8,
+// ---------------------------------------------------------------- Held as cases
+
+/// What an answer must be, and else that a refused or skipped line leaves everything as it was.
+enum Expected {
+    /// The form alone is told: 3 or anything later.
+    Form(u8),
+    Number(u8),
+    Commands(&'static [[i64; 8]]),
+    Field(usize, i64),
+    Entry(usize, i64),
+}
+
+/// One example: the table it stands in, its case, and what the case must give.
+struct Example {
+    table: &'static str,
+    case: Case,
+    expected: Expected,
+}
+
+impl Example {
+    fn holds(&self, answer: &Answer) -> bool {
+        let Answer { number, count, ref record, ref changes, ref output, kept } = *answer;
+        let unchanged = *record == self.case.record && changes.is_empty() && output.is_empty();
+        let entry_after = |number: usize| {
+            let held = changes.iter().chain(self.case.changes.iter()).find(|change| change.0 == number);
+            held.map_or(0, |change| change.1)
+        };
+        let as_told = match self.expected {
+            Expected::Form(form) => (number == 3) == (form == 3) && number != 1 && number != 2,
+            Expected::Number(wanted) => number == u64::from(wanted),
+            Expected::Commands(commands) => number == 0 && *output == commands.concat(),
+            Expected::Field(place, wanted) => record[place] == wanted,
+            Expected::Entry(number, wanted) => entry_after(number) == wanted,
+        };
+        as_told && kept && output.len() == 8 * count && (number == 0 || unchanged)
+    }
+}
+
+/// A line for the fresh record and an all-zero table.
+fn usual(line: &[u8]) -> Case {
+    let record = Record::fresh().to_numbers();
+    Case { line: line.to_vec(), switch: false, record, table_length: TABLE_LENGTH, changes: Vec::new(), room: 80 }
+}
+
+/// The lines before, each as an example that is accepted, and the line after them.
+fn session(table: &'static str, before: &str, line: &str, expected: Expected) -> Vec<Example> {
+    let (mut examples, mut state) = (Vec::new(), usual(b""));
+    for earlier in before.split('|') {
+        let case = Case { line: earlier.as_bytes().to_vec(), changes: state.changes.clone(), ..usual(b"") };
+        let case = Case { record: state.record, ..case };
+        let answer = cases::work(&case);
+        state.record = answer.record;
+        for (number, value) in answer.changes {
+            state.changes.retain(|change| change.0 != number);
+            state.changes.push((number, value));
+        }
+        examples.push(Example { table, case, expected: Expected::Number(0) });
+    }
+    let case = Case { line: line.as_bytes().to_vec(), ..state };
+    examples.push(Example { table, case, expected });
+    examples
+}
+
+/// A value as the setting of entry 100, which holds something else before.
+fn value_example((text, value): &(&str, Result<i64, u8>)) -> Example {
+    let changes = vec![(1, 20_000), (2, 70_000), (7, 10_000), (61, 1_000_000_000), (100, 7)];
+    let case = Case { changes, ..usual(format!("#100={text}").as_bytes()) };
+    let expected = value.map_or_else(Expected::Number, |value| Expected::Entry(100, value));
+    Example { table: "value", case, expected }
 }
 
 /// Record fields at the end of their range; one more is number 1.
@@ -602,51 +623,45 @@ const INSIDE: [(usize, i64); 7] =
 /// More fields outside their range.
 const OUTSIDE: [(usize, i64); 7] = [(33, 40), (34, 0), (35, 920), (36, 190), (37, 594), (38, -1), (30, i64::MIN)];
 
-fn usual(line: &[u8], number: u8) -> Lent {
-    Lent { line: line.to_vec(), switch: false, field: (0, 0), entry: (0, 0), length: 5_000, room: 72, number }
-}
-
-fn lent_cases() -> Vec<Lent> {
+/// Lines with the switch, records and tables about their limits, and too little room; with their numbers.
+fn lent_cases() -> Vec<(Case, u8)> {
+    let field = |(place, number): (usize, i64), line: &[u8]| {
+        let mut case = usual(line);
+        case.record[place] = number;
+        case
+    };
+    let switched = |line: &[u8]| Case { switch: true, ..usual(line) };
+    let of_length = |table_length, line: &[u8]| Case { table_length, ..usual(line) };
+    let with_entry = |number, value, line: &[u8]| Case { changes: vec![(number, value)], ..usual(line) };
+    let in_room = |room, line: &[u8]| Case { room, ..usual(line) };
     let mut cases = vec![
-        usual(&[b' '; 256], 0),
-        usual(&[b' '; 257], 2),
-        usual(&[b')'; 257], 2),
-        Lent { switch: true, ..usual(b"/)(", 100) },
-        Lent { switch: true, ..usual(b" \t/ M6", 100) },
-        Lent { switch: true, ..usual(b"(c)/", 3) },
-        Lent { switch: true, ..usual(&[b'/'; 257], 2) },
-        Lent { switch: true, length: 4_999, ..usual(b"/", 1) },
-        usual(b"/)(", 3),
-        usual(b"/M6", 0),
-        Lent { length: 4_999, ..usual(b"", 1) },
-        Lent { length: 5_001, ..usual(b"", 1) },
-        Lent { entry: (1, 1_000_000_000), ..usual(b"#1=2", 0) },
-        Lent { entry: (1, 1_000_000_000), ..usual(b"G0 X#1", 5) },
-        Lent { entry: (0, i64::MIN), ..usual(b"G0 X1", 0) },
-        Lent { room: 0, ..usual(b"G21", 0) },
-        Lent { room: 0, ..usual(b"M6", 15) },
-        Lent { room: 7, ..usual(b"M6", 15) },
-        Lent { room: 8, ..usual(b"M6", 0) },
-        Lent { room: 15, ..usual(b"#1=2 M6 M3", 15) },
-        Lent { room: 16, ..usual(b"#1=2 M6 M3", 0) },
+        (usual(&[b' '; 256]), 0),
+        (usual(&[b' '; 257]), 2),
+        (usual(&[b')'; 257]), 2),
+        (switched(b"/)("), 100),
+        (switched(b" \t/ M6"), 100),
+        (switched(b"(c)/"), 3),
+        (switched(&[b'/'; 257]), 2),
+        (Case { table_length: 4_999, ..switched(b"/") }, 1),
+        (usual(b"/)("), 3),
+        (usual(b"/M6"), 0),
+        (of_length(4_999, b""), 1),
+        (of_length(5_001, b""), 1),
+        (with_entry(1, 1_000_000_000, b"#1=2"), 0),
+        (with_entry(1, 1_000_000_000, b"G0 X#1"), 5),
+        (with_entry(0, i64::MIN, b"G0 X1"), 0),
+        (in_room(0, b"G21"), 0),
+        (in_room(0, b"M6"), 15),
+        (in_room(7, b"M6"), 15),
+        (in_room(8, b"M6"), 0),
+        (in_room(15, b"#1=2 M6 M3"), 15),
+        (in_room(16, b"#1=2 M6 M3"), 0),
     ];
-    cases.extend(INSIDE.map(|field| Lent { field, ..usual(b"", 0) }));
+    cases.extend(INSIDE.map(|at_limit| (field(at_limit, b""), 0)));
     let outside = INSIDE.map(|(place, number)| (place, if number < 0 { number - 1 } else { number + 1 }));
-    cases.extend(outside.map(|field| Lent { field, ..usual(b"", 1) }));
-    cases.extend(OUTSIDE.map(|field| Lent { field, ..usual(b")", 1) }));
+    cases.extend(outside.map(|beyond| (field(beyond, b""), 1)));
+    cases.extend(OUTSIDE.map(|wrong| (field(wrong, b")"), 1)));
     cases
-}
-
-fn lent_holds(case: &Lent) -> bool {
-    let mut numbers = Record::fresh().to_numbers();
-    numbers[case.field.0] = case.field.1;
-    let mut table = vec![0; case.length];
-    table[case.entry.0] = case.entry.1;
-    let (before, table_before) = (Record::from_numbers(&numbers), table.clone());
-    let (mut record, mut space) = (before.clone(), vec![77; case.room]);
-    let (number, count) = rules::interpret(&case.line, case.switch, &mut record, &mut table, &mut space);
-    let unchanged = count == 0 && record == before && table == table_before && space == vec![77; case.room];
-    number == case.number && (number == 0 || unchanged) && space[8 * count..].iter().all(|&place| place == 77)
 }
 
 /// NGC prints a line of five items that means the same in all of its 120 orders; here it is 10.
@@ -664,33 +679,96 @@ fn with_item(order: &str, place: usize, item: &str) -> String {
     items.join(" ")
 }
 
-fn order_holds(line: &String) -> bool {
-    number_holds(&("", line, 10))
-}
-
-/// How many examples of a table hold and how many do not; those that do not are named by place.
-fn count<T>(name: &str, table: &[T], holds: fn(&T) -> bool, out: &mut impl Write) -> io::Result<(usize, usize)> {
-    let failed: Vec<usize> = (0..table.len()).filter(|&place| !holds(&table[place])).collect();
-    for place in &failed {
-        writeln!(out, "failed: {name} {place}")?;
+/// Every example that is a case, in one order.
+fn examples() -> Vec<Example> {
+    let mut all = Vec::new();
+    let form = |&(line, form): &(&[u8], u8)| Example { table: "form", case: usual(line), expected: Expected::Form(form) };
+    all.extend(FORMS.iter().map(form));
+    all.extend(VALUES.iter().map(value_example));
+    for &(before, line, number) in NUMBERS {
+        all.extend(session("number", before, line, Expected::Number(number)));
     }
-    Ok((table.len() - failed.len(), failed.len()))
+    for &(before, line, commands) in COMMANDS {
+        all.extend(session("commands", before, line, Expected::Commands(commands)));
+    }
+    for &(before, line, place, number) in FIELDS {
+        all.extend(session("field", before, line, Expected::Field(place, number)));
+    }
+    for &(before, line, number, value) in ENTRIES {
+        all.extend(session("entry", before, line, Expected::Entry(number, value)));
+    }
+    for line in five_items_in_every_order() {
+        all.extend(session("order", "", &line, Expected::Number(10)));
+    }
+    let lent = lent_cases().into_iter();
+    all.extend(lent.map(|(case, number)| Example { table: "lent", case, expected: Expected::Number(number) }));
+    all
 }
 
-/// Runs every table; true if all examples hold.
+/// The examples as cases, one a line.
+pub fn write_cases(out: &mut impl Write) -> io::Result<()> {
+    examples().iter().try_for_each(|example| writeln!(out, "{}", example.case.text()))
+}
+
+/// The programs among the examples, NNNN.ngc, and the frames that each gives, NNNN.frames.
+pub fn write_programs(folder: &Path) -> io::Result<()> {
+    fs::create_dir_all(folder)?;
+    for (place, (input, frames)) in FRAMES.iter().enumerate() {
+        fs::write(folder.join(format!("{place:04}.ngc")), input)?;
+        fs::write(folder.join(format!("{place:04}.frames")), frames)?;
+    }
+    Ok(())
+}
+
+// ---------------------------------------------------------------- Running them
+
+/// How many examples hold and how many do not.
+struct Count {
+    passed: usize,
+    failed: usize,
+}
+
+impl Count {
+    fn add(&mut self, holds: bool, name: &str, place: usize, out: &mut impl Write) -> io::Result<()> {
+        if holds {
+            self.passed += 1;
+            return Ok(());
+        }
+        self.failed += 1;
+        writeln!(out, "failed: {name} {place}")
+    }
+
+    fn all<T>(&mut self, name: &str, table: &[T], holds: fn(&T) -> bool, out: &mut impl Write) -> io::Result<()> {
+        (0..table.len()).try_for_each(|place| self.add(holds(&table[place]), name, place, out))
+    }
+
+    fn told(&self, out: &mut impl Write) -> io::Result<bool> {
+        writeln!(out, "{} passed, {} failed", self.passed, self.failed)?;
+        Ok(self.failed == 0 && self.passed > 0)
+    }
+}
+
+/// Runs every example by the rules of this program; true if all hold.
 pub fn run(out: &mut impl Write) -> io::Result<bool> {
-    let counts = [
-        count("form", FORMS, form_holds, out)?,
-        count("value", VALUES, value_holds, out)?,
-        count("number", NUMBERS, number_holds, out)?,
-        count("commands", COMMANDS, commands_hold, out)?,
-        count("field", FIELDS, field_holds, out)?,
-        count("entry", ENTRIES, entry_holds, out)?,
-        count("frames", FRAMES, frames_hold, out)?,
-        count("order", &five_items_in_every_order(), order_holds, out)?,
-        count("lent", &lent_cases(), lent_holds, out)?,
-    ];
-    let (passed, failed) = counts.iter().fold((0, 0), |sum, one| (sum.0 + one.0, sum.1 + one.1));
-    writeln!(out, "{passed} passed, {failed} failed")?;
-    Ok(failed == 0)
+    let mut count = Count { passed: 0, failed: 0 };
+    count.all("form alone", FORMS, form_holds, out)?;
+    count.all("value alone", VALUES, value_holds, out)?;
+    count.all("frames", FRAMES, frames_hold, out)?;
+    for (place, example) in examples().iter().enumerate() {
+        count.add(example.holds(&cases::work(&example.case)), example.table, place, out)?;
+    }
+    count.told(out)
+}
+
+/// Holds the answers of another program, in the order of the cases, to the examples; true if all hold.
+pub fn hold_answers(input: impl BufRead, out: &mut impl Write) -> io::Result<bool> {
+    let (examples, mut answers) = (examples(), Vec::new());
+    crate::each_line(input, |text| Ok(answers.push(cases::answer_of(text))))?;
+    let mut count = Count { passed: 0, failed: 0 };
+    for (place, example) in examples.iter().enumerate() {
+        let answer = answers.get(place).and_then(Option::as_ref);
+        count.add(answer.is_some_and(|answer| example.holds(answer)), example.table, place, out)?;
+    }
+    count.add(answers.len() == examples.len(), "number of answers", answers.len(), out)?;
+    count.told(out)
 }

@@ -2,6 +2,7 @@
 //! meant to have, aimed at a limit of the rules; it is then written with expressions, parameters,
 //! comments, blanks and mixed case, and a share of the lines is damaged afterwards.
 
+use crate::cases::Case;
 use crate::rules::{self, counts, plane_axes, system_place, Record, LONGEST_LINE, REACH, TABLE_LENGTH, VALUE_LIMIT};
 
 /// A xorshift generator; equal seeds roll equal numbers.
@@ -39,16 +40,6 @@ impl Dice {
     fn between(&mut self, least: i64, most: i64) -> i64 {
         least + (self.roll() % (most - least + 1) as u64) as i64
     }
-}
-
-/// One whole case: a line with all that is lent to it.
-pub struct Case {
-    pub line: Vec<u8>,
-    pub switch: bool,
-    pub record: [i64; 43],
-    pub table_length: usize,
-    pub changes: Vec<(usize, i64)>,
-    pub room: usize,
 }
 
 /// The words a line shall have, finished items beside them, and the record and table it is aimed at.
@@ -491,10 +482,30 @@ fn disturb(dice: &mut Dice, draft: &mut Draft) {
         2 | 3 => draft.words.push(extra),
         4 => draft.g(dice.pick(&SERVED_G)),
         5 => draft.words[place].1 += dice.pick(&[1, -1, 2, -2]),
-        6 => draft.words[place].1 = dice.pick(&EDGE_VALUES),
+        6 if dice.one_in(2) => draft.words[place].1 = dice.pick(&EDGE_VALUES),
+        6 => draft.items.push(stopped_item(dice)),
         _ if dice.one_in(2) => draft.words.push((b'G', dice.pick(&WRONG_G))),
         _ => draft.words.push((b'M', dice.pick(&WRONG_M))),
     }
+}
+
+/// An item whose value stops the line, by one of the numbers 4 to 7.
+fn stopped_item(dice: &mut Dice) -> Vec<u8> {
+    let values = [
+        &b"[1/0]"[..],
+        b"[5 MOD 0]",
+        b"[1/[0.0001*0.4]]",
+        b"[2 MOD [3-3]]",
+        b"100000",
+        b"[99999+1]",
+        b"[-400*400]",
+        b"FUP[99999.5]",
+        b"[1/0.00001]",
+        b"#5000",
+    ];
+    let mut item = if dice.one_in(2) { b"#9=".to_vec() } else { vec![dice.pick(LETTERS)] };
+    item.extend(dice.pick(&values));
+    item
 }
 
 fn draft(dice: &mut Dice, record: Record) -> Draft {
@@ -885,17 +896,38 @@ impl Session {
     }
 }
 
+impl Session {
+    fn begun() -> Session {
+        Session { bytes: Vec::new(), record: Record::fresh(), table: vec![0; TABLE_LENGTH] }
+    }
+
+    /// A drafted line behind the settings it asks for; false if it was refused, and added only if it may be.
+    fn draft(&mut self, dice: &mut Dice, anyway: bool) -> bool {
+        let mut draft = draft(dice, self.record.clone());
+        let mut line = finished_line(dice, &mut draft);
+        without_ends(&mut line);
+        self.prepare(dice, &draft.changes);
+        self.add(dice, &line, anyway)
+    }
+}
+
+/// A program of at least so many bytes of which every line is accepted.
+pub fn long_program(dice: &mut Dice, bytes: usize) -> Vec<u8> {
+    let mut session = Session::begun();
+    while session.bytes.len() < bytes {
+        session.draft(dice, false);
+    }
+    session.bytes
+}
+
 /// A whole program for standard input: mostly accepted lines, often a refused one towards the end.
 pub fn program(dice: &mut Dice) -> Vec<u8> {
-    let mut session = Session { bytes: Vec::new(), record: Record::fresh(), table: vec![0; TABLE_LENGTH] };
+    let mut session = Session::begun();
     let tries = dice.between(20, 300);
     let refused_at = dice.between(1, tries + tries / 2);
     for attempt in 0..tries {
-        let mut draft = draft(dice, session.record.clone());
-        let mut line = finished_line(dice, &mut draft);
-        without_ends(&mut line);
-        session.prepare(dice, &draft.changes);
-        if !session.add(dice, &line, attempt >= refused_at) && attempt >= refused_at {
+        let last = attempt >= refused_at;
+        if !session.draft(dice, last) && last {
             break;
         }
     }

@@ -1,22 +1,22 @@
 //! A second, independent program for document 01: see README.md for what each subcommand prints.
 
+mod cases;
+mod codes;
 mod examples;
 mod generate;
 mod rules;
 
-use generate::{Case, Dice};
+use cases::listed;
+use generate::Dice;
 use rules::{Reading, Record, COMMAND_LENGTH, LONGEST_LINE, TABLE_LENGTH};
 use std::fs;
 use std::io::{self, BufRead, BufWriter, Error, ErrorKind, Read, Write};
 use std::path::Path;
 use std::process::ExitCode;
 
-/// What the room of a case holds before the line is worked.
-const FILLER: i64 = 77;
-/// No case may ask for more table or room than this.
-const MOST_NUMBERS: usize = 1_000_000;
-const USAGE: &str = "second frames | forms | readings | answers | examples, \
-or lines SEED COUNT | blocks SEED COUNT | counts SEED COUNT | programs SEED COUNT DIR";
+const USAGE: &str = "second frames [--each] | forms | readings | answers | tally | codes, \
+or examples [--cases | --answers | --programs DIR], \
+or lines SEED COUNT | blocks SEED COUNT | programs SEED COUNT DIR | long SEED BYTES";
 
 fn main() -> ExitCode {
     let arguments: Vec<String> = std::env::args().skip(1).collect();
@@ -37,15 +37,21 @@ fn run(arguments: &[String], out: &mut impl Write) -> io::Result<bool> {
     let words: Vec<&str> = arguments.iter().map(String::as_str).collect();
     let input = io::stdin().lock();
     match words[..] {
-        ["frames"] => frames(input, out)?,
+        ["frames"] => frames(input, out, "")?,
+        ["frames", "--each"] => frames(input, out, ".\n")?,
         ["forms"] => each_line(input, |line| writeln!(out, "{}", rules::form(line)))?,
         ["readings"] => readings(input, out)?,
-        ["answers"] => each_line(input, |line| writeln!(out, "{}", answer(line)))?,
+        ["answers"] => return answers(input, out),
+        ["tally"] => return tally(input, out),
         ["examples"] => return examples::run(out),
+        ["examples", "--cases"] => examples::write_cases(out)?,
+        ["examples", "--answers"] => return examples::hold_answers(input, out),
+        ["examples", "--programs", folder] => examples::write_programs(Path::new(folder))?,
+        ["codes"] => codes::write_cases(out)?,
         ["lines", seed, count] => lines(whole(seed)?, whole(count)?, out)?,
         ["blocks", seed, count] => blocks(whole(seed)?, whole(count)?, out)?,
-        ["counts", seed, count] => tally(whole(seed)?, whole(count)?, out)?,
         ["programs", seed, count, folder] => programs(whole(seed)?, whole(count)?, Path::new(folder))?,
+        ["long", seed, bytes] => out.write_all(&generate::long_program(&mut Dice::new(whole(seed)?), whole(bytes)? as usize))?,
         _ => return Err(Error::new(ErrorKind::InvalidInput, USAGE)),
     }
     Ok(true)
@@ -68,18 +74,20 @@ fn each_line(mut input: impl BufRead, mut work: impl FnMut(&[u8]) -> io::Result<
 // ---------------------------------------------------------------- Frames
 
 /// "A program reads lines from standard input, from a fresh record with an all-zero table, switch off
-/// and 8,000 numbers of output space, and writes a frame for each command, one a line".
-fn frames(mut input: impl BufRead, out: &mut impl Write) -> io::Result<()> {
+/// and 8,000 numbers of output space, and writes a frame for each command, one a line". Behind what each line
+/// writes comes a text by which a test can tell the lines apart.
+fn frames(mut input: impl BufRead, out: &mut impl Write, after_each: &str) -> io::Result<()> {
     let (mut record, mut table, mut space) = (Record::fresh(), vec![0; TABLE_LENGTH], vec![0; 8_000]);
     while let Some(line) = next_line(&mut input)? {
         let (number, count) = rules::interpret(&line, false, &mut record, &mut table, &mut space);
         if number != rules::ACCEPTED && number != rules::SKIPPED {
             // "A refusal writes FF and its number in ten hexadecimal digits, and ends the run".
-            return writeln!(out, "FF{number:010X}");
+            return write!(out, "FF{number:010X}\n{after_each}");
         }
         for command in space.chunks_exact(COMMAND_LENGTH).take(count) {
             write_frame(command, out)?;
         }
+        write!(out, "{after_each}")?;
     }
     Ok(())
 }
@@ -160,12 +168,6 @@ fn gap(list: &str) -> &'static str {
     }
 }
 
-/// `a=1,b=2`, with `=` or `:` between.
-fn listed<T: std::fmt::Display>(pairs: impl IntoIterator<Item = (T, i64)>, between: char) -> String {
-    let texts: Vec<String> = pairs.into_iter().map(|(name, value)| format!("{name}{between}{value}")).collect();
-    texts.join(",")
-}
-
 // ---------------------------------------------------------------- Generated lines, cases, programs
 
 fn lines(seed: u64, count: u64, out: &mut impl Write) -> io::Result<()> {
@@ -188,126 +190,51 @@ fn programs(seed: u64, count: u64, folder: &Path) -> io::Result<()> {
 
 fn blocks(seed: u64, count: u64, out: &mut impl Write) -> io::Result<()> {
     let mut dice = Dice::new(seed);
-    for _ in 0..count {
-        let case = generate::case(&mut dice);
-        let line: String = case.line.iter().map(|byte| format!("{byte:02x}")).collect();
-        let (record, changes) = (numbers(&case.record), listed(case.changes.iter().copied(), ':'));
-        let (switch, length, room) = (u8::from(case.switch), case.table_length, case.room);
-        writeln!(out, "{} {switch} {record} {length} {} {room}", or_dash(&line), or_dash(&changes))?;
-    }
-    Ok(())
+    (0..count).try_for_each(|_| writeln!(out, "{}", generate::case(&mut dice).text()))
 }
 
-/// An empty list is written `-`, so that every case has the same number of columns.
-fn or_dash(text: &str) -> &str {
-    if text.is_empty() {
-        "-"
-    } else {
-        text
-    }
-}
-
-fn numbers(list: &[i64]) -> String {
-    let texts: Vec<String> = list.iter().map(i64::to_string).collect();
-    texts.join(",")
-}
-
-// ---------------------------------------------------------------- Answers
-
-/// What a case's line gives, with everything lent to it afterwards.
-struct Answer {
-    number: u8,
-    count: usize,
-    record: [i64; 43],
-    changes: Vec<(usize, i64)>,
-    space: Vec<i64>,
-}
-
-fn work(case: &Case) -> Answer {
-    let mut before = vec![0; case.table_length];
-    for &(number, value) in &case.changes {
-        before[number] = value;
-    }
-    let (mut table, mut record, mut space) =
-        (before.clone(), Record::from_numbers(&case.record), vec![FILLER; case.room]);
-    let (number, count) = rules::interpret(&case.line, case.switch, &mut record, &mut table, &mut space);
-    let pairs = table.iter().copied().enumerate().zip(before);
-    let changes = pairs.filter(|(after, before)| after.1 != *before).map(|(after, _)| after).collect();
-    Answer { number, count, record: record.to_numbers(), changes, space }
-}
-
-fn answer(line: &[u8]) -> String {
-    let Some(case) = case_of(line) else {
-        return "no case".to_string();
-    };
-    let answer = work(&case);
-    let (written, rest) = answer.space.split_at(COMMAND_LENGTH * answer.count);
-    let unchanged = rest.iter().all(|&number| number == FILLER);
-    format!(
-        "{} {} {} {} {} {}",
-        answer.number,
-        answer.count,
-        numbers(&answer.record),
-        or_dash(&listed(answer.changes, ':')),
-        or_dash(&numbers(written)),
-        if unchanged { "ok" } else { "changed" }
-    )
-}
-
-/// A case from its text; none if it is not written as `blocks` writes it.
-fn case_of(text: &[u8]) -> Option<Case> {
-    let columns: Vec<&str> = std::str::from_utf8(text).ok()?.split_ascii_whitespace().collect();
-    let [line, switch, record, length, changes, room] = columns[..] else {
-        return None;
-    };
-    let record: Option<Vec<i64>> = record.split(',').map(|number| number.parse().ok()).collect();
-    let case = Case {
-        line: bytes_of(line)?,
-        switch: switch == "1",
-        record: record?.try_into().ok()?,
-        table_length: length.parse().ok()?,
-        changes: changes_of(changes)?,
-        room: room.parse().ok()?,
-    };
-    let fits = case.table_length <= MOST_NUMBERS && case.room <= MOST_NUMBERS;
-    (fits && case.changes.iter().all(|change| change.0 < case.table_length)).then_some(case)
-}
-
-fn bytes_of(text: &str) -> Option<Vec<u8>> {
-    let digits: Vec<u8> = if text == "-" { Vec::new() } else { text.bytes().collect() };
-    let pair = |pair: &[u8]| u8::from_str_radix(std::str::from_utf8(pair).ok()?, 16).ok();
-    digits.chunks(2).map(pair).collect()
-}
-
-fn changes_of(text: &str) -> Option<Vec<(usize, i64)>> {
-    if text == "-" {
-        return Some(Vec::new());
-    }
-    let change = |change: &str| {
-        let (number, value) = change.split_once(':')?;
-        Some((number.parse().ok()?, value.parse().ok()?))
-    };
-    text.split(',').map(change).collect()
+/// The answer of each case; false if one of them cannot be read.
+fn answers(input: impl BufRead, out: &mut impl Write) -> io::Result<bool> {
+    let mut all_read = true;
+    each_line(input, |text| match cases::case_of(text) {
+        Some(case) => writeln!(out, "{}", cases::work(&case).text()),
+        None => {
+            all_read = false;
+            writeln!(out, "no case")
+        }
+    })?;
+    Ok(all_read)
 }
 
 // ---------------------------------------------------------------- Counts
 
-/// How often each number and each command kind occurs among the generated cases.
-fn tally(seed: u64, count: u64, out: &mut impl Write) -> io::Result<()> {
-    let (mut by_number, mut by_kind) = ([0_u64; 101], [0_u64; 12]);
-    let mut dice = Dice::new(seed);
-    for _ in 0..count {
-        let answer = work(&generate::case(&mut dice));
-        by_number[usize::from(answer.number)] += 1;
-        for command in answer.space.chunks_exact(COMMAND_LENGTH).take(answer.count) {
-            by_kind[command[0] as usize] += 1;
+/// What each count of a comparison must reach.
+const LEAST: u64 = 50;
+
+/// How often each number, and each command kind, occurs among these answers; false if one of them is
+/// seen too seldom for a comparison to say much, or if an answer cannot be read.
+fn tally(input: impl BufRead, out: &mut impl Write) -> io::Result<bool> {
+    let (mut by_number, mut by_kind, mut unread) = ([0_u64; 101], [0_u64; 12], 0_u64);
+    each_line(input, |text| {
+        let Some(answer) = cases::answer_of(text) else {
+            unread += 1;
+            return Ok(());
+        };
+        by_number[(answer.number as usize).min(99 + usize::from(answer.number == 100))] += 1;
+        for command in answer.output.chunks_exact(COMMAND_LENGTH) {
+            by_kind[command[0].clamp(0, 11) as usize] += 1;
         }
+        Ok(())
+    })?;
+    let numbers = by_number.iter().enumerate().filter(|&(number, _)| number <= 15 || number == 100);
+    let numbers: Vec<String> = numbers.map(|(number, times)| format!("{number}:{times}")).collect();
+    let kinds: Vec<String> = (1..12).map(|kind| format!("{kind}:{}", by_kind[kind])).collect();
+    writeln!(out, "numbers {}", numbers.join(" "))?;
+    writeln!(out, "kinds {}", kinds.join(" "))?;
+    let often = |times: &u64| *times >= LEAST;
+    let seen = by_number[..=15].iter().all(often) && often(&by_number[100]) && by_kind[1..].iter().all(often);
+    if !seen || unread > 0 {
+        writeln!(out, "each must occur at least {LEAST} times; {unread} answers cannot be read")?;
     }
-    for (number, times) in by_number.iter().enumerate().filter(|&(number, _)| number <= 15 || number == 100) {
-        writeln!(out, "number {number} {times}")?;
-    }
-    for (kind, times) in by_kind.iter().enumerate().skip(1) {
-        writeln!(out, "kind {kind} {times}")?;
-    }
-    Ok(())
+    Ok(seen && unread == 0)
 }
