@@ -3,15 +3,9 @@
 //! seen here, wherever it is added.
 
 use crate::cases::Case;
-use crate::rules::{Record, TABLE_LENGTH};
+use crate::rules::{self, Record, TABLE_LENGTH};
 use std::io::{self, Write};
 
-/// The served codes, as they are written.
-const SERVED: [&str; 40] = [
-    "G0", "G1", "G2", "G3", "G4", "G10", "G17", "G18", "G19", "G20", "G21", "G40", "G49", "G53", "G54", "G55", "G56",
-    "G57", "G58", "G59", "G59.1", "G59.2", "G59.3", "G80", "G90", "G91", "G92", "G92.1", "G94", "M0", "M1", "M2", "M3",
-    "M4", "M5", "M6", "M7", "M8", "M9", "M30",
-];
 /// What stands beside a code: nothing, a move, an arc, and each word that only some codes need or leave idle.
 const BESIDE: [&str; 9] = ["", "X1", "X1 I0.5", "Y1 Z2", "P1", "L2 P2 X1", "F100 Z-1", "X1 K1", "S5 T7 #1=3"];
 /// Of these, what stands beside a value that is only near a code.
@@ -63,10 +57,15 @@ fn lines(letter: char, step: i64) -> Vec<String> {
 
 /// Every two served codes, with the words that either may need.
 fn pairs() -> Vec<String> {
-    let with = |first: &str, second: &str| {
-        ["", "X1", "P1 L2 X1"].map(|beside| format!("{first} {second} {beside}"))
-    };
-    SERVED.iter().flat_map(|first| SERVED.iter().flat_map(move |second| with(first, second))).collect()
+    let g = rules::served_g().into_iter().map(|code| format!("G{}.{}", code / 10, code % 10));
+    let served: Vec<String> = g.chain(rules::served_m().into_iter().map(|code| format!("M{code}"))).collect();
+    let mut pairs = Vec::new();
+    for first in &served {
+        for second in &served {
+            pairs.extend(["", "X1", "P1 L2 X1"].map(|beside| format!("{first} {second} {beside}")));
+        }
+    }
+    pairs
 }
 
 pub fn write_cases(out: &mut impl Write) -> io::Result<()> {

@@ -594,8 +594,7 @@ fn usual(line: &[u8]) -> Case {
 fn session(table: &'static str, before: &str, line: &str, expected: Expected) -> Vec<Example> {
     let (mut examples, mut state) = (Vec::new(), usual(b""));
     for earlier in before.split('|') {
-        let case = Case { line: earlier.as_bytes().to_vec(), changes: state.changes.clone(), ..usual(b"") };
-        let case = Case { record: state.record, ..case };
+        let case = Case { record: state.record, changes: state.changes.clone(), ..usual(earlier.as_bytes()) };
         let answer = cases::work(&case);
         state.record = answer.record;
         for (number, value) in answer.changes {
@@ -682,7 +681,8 @@ fn with_item(order: &str, place: usize, item: &str) -> String {
 /// Every example that is a case, in one order.
 fn examples() -> Vec<Example> {
     let mut all = Vec::new();
-    let form = |&(line, form): &(&[u8], u8)| Example { table: "form", case: usual(line), expected: Expected::Form(form) };
+    let form =
+        |&(line, form): &(&[u8], u8)| Example { table: "form", case: usual(line), expected: Expected::Form(form) };
     all.extend(FORMS.iter().map(form));
     all.extend(VALUES.iter().map(value_example));
     for &(before, line, number) in NUMBERS {

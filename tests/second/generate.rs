@@ -4,6 +4,7 @@
 
 use crate::cases::Case;
 use crate::rules::{self, counts, plane_axes, system_place, Record, LONGEST_LINE, REACH, TABLE_LENGTH, VALUE_LIMIT};
+use std::sync::LazyLock;
 
 /// A xorshift generator; equal seeds roll equal numbers.
 pub struct Dice(u64);
@@ -51,11 +52,8 @@ struct Draft {
 }
 
 const LETTERS: &[u8; 13] = b"FGIJKLMPSTXYZ";
-const SERVED_G: [i64; 30] = [
-    0, 10, 20, 30, 40, 100, 170, 180, 190, 200, 210, 400, 490, 530, 540, 550, 560, 570, 580, 590, 591, 592, 593, 800,
-    900, 910, 920, 921, 940, 0,
-];
-const SERVED_M: [i64; 11] = [0, 1, 2, 30, 3, 4, 5, 6, 7, 8, 9];
+static SERVED_G: LazyLock<Vec<i64>> = LazyLock::new(rules::served_g);
+static SERVED_M: LazyLock<Vec<i64>> = LazyLock::new(rules::served_m);
 /// G and M numbers not served, in ten-thousandths.
 const WRONG_G: [i64; 14] = [
     50_000, 410_000, 594_000, 595_000, 990_000, 999_000, 999_999, 1_000_000, -10_000, -1_000, 500, 1_500, 922_000,

@@ -51,7 +51,9 @@ fn run(arguments: &[String], out: &mut impl Write) -> io::Result<bool> {
         ["lines", seed, count] => lines(whole(seed)?, whole(count)?, out)?,
         ["blocks", seed, count] => blocks(whole(seed)?, whole(count)?, out)?,
         ["programs", seed, count, folder] => programs(whole(seed)?, whole(count)?, Path::new(folder))?,
-        ["long", seed, bytes] => out.write_all(&generate::long_program(&mut Dice::new(whole(seed)?), whole(bytes)? as usize))?,
+        ["long", seed, bytes] => {
+            out.write_all(&generate::long_program(&mut Dice::new(whole(seed)?), whole(bytes)? as usize))?
+        }
         _ => return Err(Error::new(ErrorKind::InvalidInput, USAGE)),
     }
     Ok(true)

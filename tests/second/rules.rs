@@ -577,6 +577,15 @@ fn m_group(code: i64) -> Option<usize> {
     }
 }
 
+/// Every G code that is served, times ten, and every M code.
+pub fn served_g() -> Vec<i64> {
+    (0..1_000).filter(|&code| g_group(code).is_some()).collect()
+}
+
+pub fn served_m() -> Vec<i64> {
+    (0..100).filter(|&code| m_group(code).is_some()).collect()
+}
+
 /// A line's content: its G codes (ten times) and M codes by group, its other words by letter.
 struct Content {
     g: [Option<i64>; 13],
