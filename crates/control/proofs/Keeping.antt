@@ -7,9 +7,9 @@ use mathlib.Core.Option.{Option, none, some}
 use Prim.Native.Nat.{ℕ, zero, suc, _+_, _≤_, _<_}
 use native.Mathlib.Omega.{arith}
 use lib.Dec.{T, eqb, ltb, eqb→eq, T-not}
-use lib.ListN.{length, take, drop, replicate}
+use lib.ListN.{length, take, drop}
 use lib.Seq.{sets, sets-eq, take-append-seam}
-use lib.IntN.{ℤ, pos}
+use lib.IntN.{ℤ}
 use borrow.Author.Tests.{le-ltb, lt-ltb, ne-eqb}
 use Rattle.laws.proofs.Bools.{T-eq, not-eq}
 use Rattle.grammar.specs.Grammar.{Line, line as lineOf, letter}
@@ -28,7 +28,7 @@ use Rattle.rules.specs.declared.Block.{Block}
 use Rattle.rules.specs.declared.Record.{Record}
 use Rattle.rules.specs.declared.Outcome.{Outcome}
 use Rattle.rules.specs.declared.Answer.the-variants.{Refused, Skipped}
-use Rattle.reader.specs.Reading.{Spaces, spaces, stored, stopOf, outcome, Left, left, leaves, Reads}
+use Rattle.reader.specs.Reading.{Spaces, stored, stopOf, outcome, Left, leaves, Reads}
 use Rattle.reader.specs.declared.line.Reading.{Reading}
 use Rattle.reader.specs.declared.line.Reading.the-variants.{Read}
 use Rattle.block.specs.Held.{said}
@@ -166,30 +166,26 @@ module _ (line : List ℕ) (switch : Bool) (r : Record) (table out : List ℤ) (
         let d : take (length ss) (stored e old .amounts) ≡ map (λ (x : Setting). x .value) ss = rw (← length-map (λ (x : Setting). x .value) ss) (front (map (λ (x : Setting). x .value) ss) (old .amounts) (omega (arith, length-map (λ (x : Setting). x .value) ss))) in
         rw (h, a, b, c, d, said-back ws, settings-back ss)
 
-    tree-answer : (t : Line) → Derives t line → worked (leaves line table old (some t)) r table out ≡ answer (some t) line switch r table out
-    unfolding worked leaves
+    tree-answer : (t : Line) → Derives t line → worked (leaves table old t) r table out ≡ answer (some t) line switch r table out
+    unfolding worked
     tree-answer (lineOf sl n is) d =
         let e = lineEntries (arithmetic table) (lineOf sl n is) in
         let l : allLettered (words e) ≡ true = entries-lettered table is (d .ok .1) in
         let s : SoundTook e = entries-sound table is in
         let c = line-counts table (lineOf sl n is) in
         let k = few d short in
-        rw (le-ltb 256 (length line) short) (go e l s (omega (arith, c .0, k .0)) (omega (arith, c .1, k .1)) (stopOf e) refl)
+        go e l s (omega (arith, c .0, k .0)) (omega (arith, c .1, k .1)) (stopOf e) refl
       where
         go : (e : Took Entry) → allLettered (words e) ≡ true → SoundTook e → length (words e) ≤ 128 → length (settings e) ≤ 64 → (o : Option ℕ) → stopOf e ≡ o → workedBy (outcome e) (stored e old) r table out ≡ answerTo (some e) line switch r table out
         go e l s w n none h = stored-answer e w n h ∙ sym (whole-answer e l s w h)
         go e l s w n (some k) h = rw h (sym (stopped-answer e s k h))
 
-    none-answer : worked (leaves line table old none) r table out ≡ answer none line switch r table out
-    unfolding worked leaves
-    none-answer = rw (le-ltb 256 (length line) short) (sym underived-answer)
-
     -- the promise, from any result that is worked from what the reader left
     kept : {a : Reading} {lent : Spaces} → Reads line table old a lent → {x : After} → x ≡ workedBy a lent r table out → Right line switch r table out x
     unfolding worked
     kept {a} {lent} p e = record {
-      byTree = λ t d. e ∙ ap (λ (l : Left). worked l r table out) (p .byTree t d) ∙ tree-answer t d;
-      byNone = λ h. e ∙ ap (λ (l : Left). worked l r table out) (p .byNone h) ∙ none-answer;
+      byTree = λ t d. e ∙ ap (λ (l : Left). worked l r table out) (p .byTree short t d) ∙ tree-answer t d;
+      byNone = λ h. e ∙ ap (λ (l : Left). worked l r table out) (p .byNone short h .is) ∙ sym underived-answer;
     }
 
     -- read to its end, and worked
@@ -203,7 +199,3 @@ module _ (line : List ℕ) (switch : Bool) (r : Record) (table out : List ℤ) (
     pub kept-refused : {a : Reading} {lent : Spaces} → Reads line table old a lent → (k : ℕ) → workedBy a lent r table out ≡ leaving (Refused k) r table out → {o : Outcome} →
         o ≡ record { answer = Refused k; rec = r } → Right line switch r table out (after o table out)
     kept-refused p k w h = kept p (ap (λ (o : Outcome). after o table out) h ∙ sym w)
-
--- the lent spaces as they are made for each line
-abbrev pub zeros : Spaces
-zeros = spaces (replicate 128 0) (replicate 128 (pos 0)) (replicate 64 0) (replicate 64 (pos 0))

@@ -11,16 +11,14 @@ use lib.IntN.{ℤ}
 use lib.ListN.{length, drop, getD, length-drop, drop-of-length-le}
 use lib.Seq.{drop-drop}
 use Rattle.grammar.specs.Grammar.{digit, Label, Slash, plain, slash}
-use Rattle.grammar.specs.Working.{Took, end, entries}
-use Rattle.grammar.proofs.Read.{Read, fail, got, bind, takeWhile, readLabel, labelled}
-use Rattle.grammar.proofs.Sound.{while-good, label-good}
-use Rattle.grammar.proofs.Place.{Placed, wrong, found, bindP, place, Sits, sits, good-sits}
+use Rattle.grammar.specs.Working.{Took}
+use Rattle.grammar.proofs.Read.{Read, fail, got, takeWhile, readLabel, labelled}
+use Rattle.grammar.proofs.Sound.{while-good}
+use Rattle.grammar.proofs.Place.{Placed, wrong, found, bindP, place}
 use Rattle.grammar.proofs.Items.{itemsP, labelP, slashP, lineP, line-place}
 use Rattle.rules.specs.Meaning.{Entry}
-use Rattle.reader.specs.Pass.{pass, guarded}
+use Rattle.reader.specs.Pass.{pass}
 use Rattle.reader.specs.Places.{DigitsAt, slashEnd, labelEnd}
-use Rattle.reader.specs.Underived.{leading, pastBeginning, leadingAfter, gathered}
-use Rattle.reader.specs.Gather.{gatheredAt}
 use Rattle.reader.specs.declared.numbers.Digits.{Digits}
 use Rattle.reader.specs.declared.spelling.Spelt.the-variants.{To, Not}
 use Rattle.reader.proofs.Spellings.{back, first-of}
@@ -117,24 +115,9 @@ no-label : (m : Placed Label) {p : ℕ} (k : ℕ → Placed (Took Entry)) → No
 no-label (wrong q) {p} k e = let h : q ≡ p = cc in ap wrong h
 no-label (found x q) k e = clash (cc)
 
-abbrev pastLabel : Read Label → Read (Unit {0})
-pastLabel m = bind m (λ _ r. got tt r)
-
-beginning-by : (s : List ℕ) → pastBeginning s ≡ bind (readLabel (drop (slashEnd s) s)) (λ _ r. got tt r)
-beginning-by [] = refl
-beginning-by (b ∷ s) = go (eqb 47 b)
-  where
-    go : (c : Bool) →
-        _≡_ {A = Read (Unit {0})} (bind (cond c (got slash s) (got plain (b ∷ s))) (λ _ q. bind (readLabel q) (λ _ r. got tt r))) (bind (readLabel (drop (cond c 1 0) (b ∷ s))) (λ _ r. got tt r))
-    go true = refl
-    go false = refl
-
 module _ (t : List ℤ) (s : List ℕ) {a : ℕ} (z : a ≡ slashEnd s) where
   opened : lineP (pass t) s ≡ bindP (labelP (pass []) s a) (λ _ q. itemsP (pass t) s q)
   opened = line-place (pass t) s ∙ rw (slashing t s .is, z, label-any t s (slashEnd s))
-
-  beginning-at : pastBeginning s ≡ bind (readLabel (drop a s)) (λ _ r. got tt r)
-  beginning-at = beginning-by s ∙ ap (λ (x : ℕ). pastLabel (readLabel (drop x s))) (sym z)
 
   -- the items follow the line's beginning
   pub line-items : {p : ℕ} → To p ≡ labelEnd (labelP (pass []) s a) → itemsP (pass t) s p ≡ lineP (pass t) s
@@ -142,19 +125,3 @@ module _ (t : List ℤ) (s : List ℕ) {a : ℕ} (z : a ≡ slashEnd s) where
 
   pub line-wrong : {p : ℕ} → Not p ≡ labelEnd (labelP (pass []) s a) → wrong p ≡ lineP (pass t) s
   line-wrong e = sym (opened ∙ no-label (labelP (pass []) s a) (λ q. itemsP (pass t) s q) e)
-
-  pub gathers-items : {p : ℕ} → To p ≡ labelEnd (labelP (pass []) s a) → gatheredAt t s p ≡ gathered (guarded t) s
-  unfolding gathered gatheredAt labelP
-  gathers-items {p} e = ap (entries (guarded t)) (sym (ap leadingAfter beginning-at ∙ go (readLabel (drop a s)) (good-sits s a (label-good (drop a s))) e))
-    where
-      go : (m : Read Label) → Sits s m → To p ≡ labelEnd (place s m) → leadingAfter (bind m (λ _ r. got tt r)) ≡ leading (drop p s)
-      go (fail q) g h = clash (cc)
-      go (got x q) (sits d) h = let k : length s - length q ≡ p = cc in ap leading (d ∙ ap (λ (y : ℕ). drop y s) k)
-
-  pub gathers-nothing : {p : ℕ} → Not p ≡ labelEnd (labelP (pass []) s a) → end ≡ gathered (guarded t) s
-  unfolding gathered labelP
-  gathers-nothing {p} e = ap (entries (guarded t)) (sym (ap leadingAfter beginning-at ∙ go (readLabel (drop a s)) e))
-    where
-      go : (m : Read Label) → Not p ≡ labelEnd (place s m) → leadingAfter (bind m (λ _ r. got tt r)) ≡ []
-      go (fail q) h = refl
-      go (got x q) h = clash (cc)

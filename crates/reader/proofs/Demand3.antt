@@ -2,12 +2,14 @@
 -- and a wrong form exactly where there is no derivation. Every law here follows from the contract alone.
 -- Assumes nothing.
 use mathlib.Core.Path.{_≡_, refl, sym, ap, _∙_}
+use mathlib.Core.Bool.{Bool, true, false}
 use mathlib.Core.List.{List, [], _∷_, _++_, map}
-use mathlib.Core.Logic.{_⊎_, ⊎-elim}
+use mathlib.Core.Logic.{⊎-elim}
 use mathlib.Core.Option.{Option, none, some}
 use Prim.Native.Nat.{ℕ, _+_, _≤_, _<_}
 use native.Mathlib.Omega.{arith}
-use borrow.Author.Tests.{le-ltb, lt-ltb}
+use borrow.Author.Tests.{leb-true, leb-false}
+use lib.Dec.{leb}
 use lib.IntN.{ℤ}
 use lib.ListN.{length, drop, length-map}
 use lib.Seq.{sets, sets-eq}
@@ -16,17 +18,17 @@ use Rattle.grammar.specs.Derivation.{strip, Derives}
 use Rattle.grammar.specs.Working.{Step, Took, end, stopped, took, after, value, entries, lineEntries}
 use Rattle.grammar.proofs.Derivations.{decided}
 use Rattle.grammar.proofs.Lengths.{wordCount, settingCount, itemsOf, few}
-use Rattle.rules.specs.Meaning.{Entry, wordOf, settingOf, settingAt, parameterOf, arithmetic, reading, stoppedBy, Said, Setting, words, settings}
+use Rattle.rules.specs.Meaning.{Entry, wordOf, settingOf, settingAt, parameterOf, arithmetic, stoppedBy, Said, Setting, words, settings}
 use Rattle.rules.specs.declared.Worked.{Worked}
 use Rattle.rules.specs.declared.Worked.the-variants.{Good, Bad}
 use Rattle.rules.specs.declared.Parameter.{Parameter}
 use Rattle.rules.specs.declared.Parameter.the-variants.{Number as Numbered, Outside}
-use Rattle.reader.specs.Underived.{stuck, FirstWrong}
-use Rattle.reader.specs.Reading.{Spaces, stored, stopOf, counted, outcome, Left, left, leftBy, leaves, Reads}
+use Rattle.reader.specs.Underived.{FirstWrong}
+use Rattle.reader.specs.Reading.{Spaces, zeros, stored, stopOf, counted, outcome, Left, left, Reads}
 use Rattle.reader.specs.declared.line.Reading.{Reading}
 use Rattle.reader.specs.declared.line.Reading.the-variants.{Read as Whole, Stopped, Wrong, TooLong}
 use Rattle.reader.proofs.Stops.{Refusal, StopsSo, line-stops}
-use Rattle.reader.proofs.Stuck.{stuck-first}
+use Rattle.reader.proofs.FirstWrong.{first-wrong-one}
 use Rattle.reader.proofs.Clash.{clash}
 
 -- ---- what an answer for a tree tells
@@ -93,31 +95,18 @@ pub record Fronts (e : Took Entry) (old sp : Spaces) : Type 0 where
   pub numbers : sp .numbers ≡ map (λ (x : Setting). x .number) (settings e) ++ drop (length (settings e)) (old .numbers)
   pub amounts : sp .amounts ≡ map (λ (x : Setting). x .value) (settings e) ++ drop (length (settings e)) (old .amounts)
 
--- ---- the promise by length
-
-short-leaves : (l : List ℕ) (t : List ℤ) (old : Spaces) (f : Option Line) → length l ≤ 256 → leaves l t old f ≡ leftBy l t old (reading t f)
-unfolding leaves
-short-leaves l t old f h = rw (le-ltb 256 (length l) h)
-
-long-leaves : (l : List ℕ) (t : List ℤ) (old : Spaces) (f : Option Line) → 256 < length l → leaves l t old f ≡ left TooLong old
-unfolding leaves
-long-leaves l t old f h = rw (lt-ltb 256 (length l) h)
-
 -- ---- the promise, for a line of at most 256 bytes
 
 module _ (l : List ℕ) (t : List ℤ) (old : Spaces) (r : Reading) (sp : Spaces) (h : length l ≤ 256) (p : Reads l t old r sp) where
   -- what is left is the derivation's
   module _ (u : Line) (d : Derives u l) where
-    both : left r sp ≡ left (outcome (lineEntries (arithmetic t) u)) (stored (lineEntries (arithmetic t) u) old)
-    both = p .byTree u d ∙ short-leaves l t old (some u) h
-
     -- the answer: how many words and settings the tree has, or the number that stopped the reading
     pub tree-answer : r ≡ outcome (lineEntries (arithmetic t) u)
-    tree-answer = ap (λ (x : Left). x .answer) both
+    tree-answer = ap (λ (x : Left). x .answer) (p .byTree h u d)
 
     -- the tree's words and settings are stored, in order, with their values
     pub tree-stored : sp ≡ stored (lineEntries (arithmetic t) u) old
-    tree-stored = ap (λ (x : Left). x .lent) both
+    tree-stored = ap (λ (x : Left). x .lent) (p .byTree h u d)
 
     -- so the spaces begin with them, and past them hold what was there
     pub tree-fronts : length (old .letters) ≡ 128 → length (old .values) ≡ 128 → length (old .numbers) ≡ 64 → length (old .amounts) ≡ 64 → Fronts (lineEntries (arithmetic t) u) old sp
@@ -148,21 +137,36 @@ module _ (l : List ℕ) (t : List ℤ) (old : Spaces) (r : Reading) (sp : Spaces
   pub wrong-none : (q : ℕ) → r ≡ Wrong q → (u : Line) → ¬ Derives u l
   wrong-none q e u d = tree-not-wrong u d q e
 
-  none-answer : ((u : Line) → ¬ Derives u l) → r ≡ Wrong (stuck (strip l))
-  none-answer n = ap (λ (x : Left). x .answer) (p .byNone n ∙ short-leaves l t old none h)
-
   pub none-wrong : ((u : Line) → ¬ Derives u l) → (q : ℕ) × (r ≡ Wrong q)
-  none-wrong n = (stuck (strip l), none-answer n)
+  none-wrong n = let w = p .byNone h n in (w .place, ap (λ (x : Left). x .answer) (w .is))
 
   -- and the place told is the first at which no right line can go on
   pub wrong-first : (q : ℕ) → r ≡ Wrong q → FirstWrong (strip l) q
   wrong-first q e =
-      let n = wrong-none q e in
-      let k : stuck (strip l) ≡ q = cc (none-answer n, e) in
-      rw k at (stuck-first l n)
+      let w = p .byNone h (wrong-none q e) in
+      let k : w .place ≡ q = cc (ap (λ (x : Left). x .answer) (w .is), e) in
+      rw k at (w .first)
+
+  -- and nothing of what was read is left
+  pub wrong-clears : (q : ℕ) → r ≡ Wrong q → sp ≡ zeros
+  wrong-clears q e = ap (λ (x : Left). x .lent) (p .byNone h (wrong-none q e) .is)
 
 -- a longer line is answered so, and leaves the spaces as they were
 pub long-line : (l : List ℕ) (t : List ℤ) (old : Spaces) (r : Reading) (sp : Spaces) → 256 < length l → Reads l t old r sp → (r ≡ TooLong) × (sp ≡ old)
-long-line l t old r sp h p =
-    let e = ⊎-elim (λ w. p .byTree (w .0) (w .1) ∙ long-leaves l t old (some (w .0)) h) (λ n. p .byNone n ∙ long-leaves l t old none h) (decided l) in
-    (ap (λ (x : Left). x .answer) e, ap (λ (x : Left). x .lent) e)
+long-line l t old r sp h p = (ap (λ (x : Left). x .answer) (p .byLength h), ap (λ (x : Left). x .lent) (p .byLength h))
+
+-- what is left is the only thing that may be
+pub reads-one : {l : List ℕ} {t : List ℤ} {old : Spaces} {r r′ : Reading} {sp sp′ : Spaces} → Reads l t old r sp → Reads l t old r′ sp′ → left r sp ≡ left r′ sp′
+reads-one {l} {t} {old} {r} {r′} {sp} {sp′} p q = go (leb (length l) 256) refl
+  where
+    no-tree : length l ≤ 256 → ((u : Line) → ¬ Derives u l) → left r sp ≡ left r′ sp′
+    no-tree h n =
+        let a = p .byNone h n in
+        let b = q .byNone h n in
+        a .is ∙ ap (λ (x : ℕ). left (Wrong x) zeros) (first-wrong-one (strip l) (a .first) (b .first)) ∙ sym (b .is)
+
+    go : (c : Bool) → leb (length l) 256 ≡ c → left r sp ≡ left r′ sp′
+    go true e =
+        let h = leb-true (length l) 256 e in
+        ⊎-elim (λ w. p .byTree h (w .0) (w .1) ∙ sym (q .byTree h (w .0) (w .1))) (no-tree h) (decided l)
+    go false e = let h = leb-false (length l) 256 e in p .byLength h ∙ sym (q .byLength h)

@@ -2,7 +2,6 @@
 -- Assumes nothing.
 use mathlib.Core.Path.{_≡_, refl, sym, ap, ap₂, _∙_}
 use mathlib.Core.List.{List}
-use mathlib.Core.Option.{none}
 use Prim.Native.Nat.{ℕ, suc, _+_, _-_, _*_, _≤_, _<_}
 use native.Mathlib.Omega.{arith}
 use native.Mathlib.Numerals.{add-one}
@@ -15,14 +14,14 @@ use Rattle.rules.specs.Meaning.{Entry, wordIs, settingIs, words, settings}
 use Rattle.rules.specs.declared.Value.{Value}
 use Rattle.reader.specs.Pass.{pass}
 use Rattle.reader.specs.Places.{itemAt}
-use Rattle.reader.specs.Reading.{Spaces, spaces, storedFrom, stored, stopOf, counted}
-use Rattle.reader.specs.Gather.{checked, refused, answered, gatheredAt}
+use Rattle.reader.specs.Reading.{Spaces, spaces, zeros, storedFrom, stored, stopOf, counted, Left, left}
+use Rattle.reader.specs.Gather.{checked, refused, leftBy, tidied}
 use Rattle.reader.specs.declared.items.Item.the-variants.{Wrong, End}
 use Rattle.reader.specs.declared.line.Checked.{Checked}
 use Rattle.reader.specs.declared.line.Checked.the-variants.{Right, Wrong as Broken}
 use Rattle.reader.specs.declared.line.Reading.{Reading}
 use Rattle.reader.specs.declared.line.Reading.the-variants.{Read as Whole, Wrong as NoForm}
-use Rattle.reader.proofs.Passing.{Passed, at-wrong, past-end, passed-on, passed-weight, gathers-on, gathers-none, gathers-end, items-on, items-none}
+use Rattle.reader.proofs.Passing.{Passed, at-wrong, past-end, passed-on, passed-weight, items-on, items-none}
 
 -- ---- the form alone
 
@@ -52,48 +51,43 @@ module _ (t : List ℤ) (s : List ℕ) (at : ℕ) where
     pub check-end : End ≡ itemAt t s i → Right ≡ checked (itemsP (pass t) s at)
     check-end e = ap checked (sym (items-end (pass t) s i (past-end t s i e))) ∙ q .same
 
--- ---- the answer, once so many words and settings are stored
+-- ---- what is left, once so many words and settings are stored
 
-abbrev answeredFrom : ℕ → ℕ → Placed (Took Entry) → Reading
-answeredFrom w n (wrong p) = NoForm p
-answeredFrom w n (found e p) = counted (stopOf e) (w + length (words e)) (n + length (settings e))
+abbrev leftFrom : ℕ → ℕ → Placed (Took Entry) → Spaces → Left
+leftFrom w n (wrong p) sp = left (NoForm p) zeros
+leftFrom w n (found e p) sp = left (counted (stopOf e) (w + length (words e)) (n + length (settings e))) (storedFrom w n e sp)
 
-from-none : (m : Placed (Took Entry)) → answeredFrom 0 0 m ≡ answered m
-from-none (wrong p) = refl
-from-none (found e p) =
+from-none : (m : Placed (Took Entry)) (sp : Spaces) → leftFrom 0 0 m sp ≡ leftBy m sp
+from-none (wrong p) sp = refl
+from-none (found e p) sp =
     let h : 0 + length (words e) ≡ length (words e) = omega arith in
     let k : 0 + length (settings e) ≡ length (settings e) = omega arith in
-    ap₂ (counted (stopOf e)) h k
+    ap (λ (x : Reading). left x (stored e sp)) (ap₂ (counted (stopOf e)) h k)
 
-from-word : (w n b : ℕ) (v : ℤ) (m : Placed (Took Entry)) → answeredFrom (w + 1) n m ≡ answeredFrom w n (mapP (after (give (wordIs b v))) m)
-from-word w n b v (wrong p) = refl
-from-word w n b v (found e p) =
-    let h : w + 1 + length (words e) ≡ w + suc (length (words e)) = omega arith in
-    ap (λ (x : ℕ). counted (stopOf e) x (n + length (settings e))) h
+module _ (w n : ℕ) (sp : Spaces) where
+  -- a word stored
+  from-word : (b : ℕ) (v : ℤ) (m : Placed (Took Entry)) →
+      leftFrom (w + 1) n m (spaces (set (sp .letters) w b) (set (sp .values) w v) (sp .numbers) (sp .amounts)) ≡ leftFrom w n (mapP (after (give (wordIs b v))) m) sp
+  from-word b v (wrong p) = refl
+  from-word b v (found e p) =
+      let h : w + 1 + length (words e) ≡ w + suc (length (words e)) = omega arith in
+      ap₂ left (ap (λ (x : ℕ). counted (stopOf e) x (n + length (settings e))) h) (rw add-one)
 
-from-setting : (w n k : ℕ) (v : ℤ) (m : Placed (Took Entry)) → answeredFrom w (n + 1) m ≡ answeredFrom w n (mapP (after (give (settingIs k v))) m)
-from-setting w n k v (wrong p) = refl
-from-setting w n k v (found e p) =
-    let h : n + 1 + length (settings e) ≡ n + suc (length (settings e)) = omega arith in
-    ap (λ (x : ℕ). counted (stopOf e) (w + length (words e)) x) h
+  -- a setting stored
+  from-setting : (k : ℕ) (v : ℤ) (m : Placed (Took Entry)) →
+      leftFrom w (n + 1) m (spaces (sp .letters) (sp .values) (set (sp .numbers) n k) (set (sp .amounts) n v)) ≡ leftFrom w n (mapP (after (give (settingIs k v))) m) sp
+  from-setting k v (wrong p) = refl
+  from-setting k v (found e p) =
+      let h : n + 1 + length (settings e) ≡ n + suc (length (settings e)) = omega arith in
+      ap₂ left (ap (λ (x : ℕ). counted (stopOf e) (w + length (words e)) x) h) (rw add-one)
 
-from-skip : (w n : ℕ) (m : Placed (Took Entry)) → answeredFrom w n m ≡ answeredFrom w n (mapP (after skip) m)
-from-skip w n (wrong p) = refl
-from-skip w n (found e p) = refl
+  from-skip : (m : Placed (Took Entry)) → leftFrom w n m sp ≡ leftFrom w n (mapP (after skip) m) sp
+  from-skip (wrong p) = refl
+  from-skip (found e p) = refl
 
-from-stop : (w n k : ℕ) (m : Placed (Took Entry)) → refused k (checked m) ≡ answeredFrom w n (mapP (after (stop k)) m)
-from-stop w n k (wrong p) = refl
-from-stop w n k (found e p) = refl
-
--- ---- one more stored
-
-stored-word : (w n b : ℕ) (v : ℤ) (e : Took Entry) (sp : Spaces) →
-    storedFrom (w + 1) n e (spaces (set (sp .letters) w b) (set (sp .values) w v) (sp .numbers) (sp .amounts)) ≡ storedFrom w n (after (give (wordIs b v)) e) sp
-stored-word w n b v e sp = rw add-one
-
-stored-setting : (w n k : ℕ) (v : ℤ) (e : Took Entry) (sp : Spaces) →
-    storedFrom w (n + 1) e (spaces (sp .letters) (sp .values) (set (sp .numbers) n k) (set (sp .amounts) n v)) ≡ storedFrom w n (after (give (settingIs k v)) e) sp
-stored-setting w n k v e sp = rw add-one
+  from-stop : (k : ℕ) (m : Placed (Took Entry)) → tidied (refused k (checked m)) sp ≡ leftFrom w n (mapP (after (stop k)) m) sp
+  from-stop k (wrong p) = refl
+  from-stop k (found e p) = refl
 
 -- ---- the loop that stores
 
@@ -101,14 +95,17 @@ stored-setting w n k v e sp = rw add-one
 pub record Gathering (t : List ℤ) (s : List ℕ) (at : ℕ) (old sp : Spaces) (w n i : ℕ) : Type 0 where
   pub within : i ≤ length s
   pub few : 2 * w + 4 * n ≤ i
-  pub answers : answeredFrom w n (itemsP (pass t) s i) ≡ answered (itemsP (pass t) s at)
-  pub stores : storedFrom w n (gatheredAt t s i) sp ≡ stored (gatheredAt t s at) old
+  pub same : leftFrom w n (itemsP (pass t) s i) sp ≡ leftBy (itemsP (pass t) s at) old
 
 module _ (t : List ℤ) (s : List ℕ) (at : ℕ) (old : Spaces) where
   pub gather-none : at ≤ length s → Gathering t s at old old 0 0 at
-  gather-none l = record { within = l; few = omega arith; answers = from-none (itemsP (pass t) s at); stores = refl }
+  gather-none l = record { within = l; few = omega arith; same = from-none (itemsP (pass t) s at) old }
 
   module _ (sp : Spaces) {w n i : ℕ} (q : Gathering t s at old sp w n i) where
+    -- past an item
+    on : {st : Step Entry} {p : ℕ} → Passed t s i st p → leftFrom w n (mapP (after st) (itemsP (pass t) s p)) sp ≡ leftBy (itemsP (pass t) s at) old
+    on k = ap (λ (m : Placed (Took Entry)). leftFrom w n m sp) (sym (items-on t s k)) ∙ q .same
+
     module _ {b : ℕ} {v : Value} {p : ℕ} (k : Passed t s i (give (wordIs b (v .0))) p) where
       pub room-for-word : length s ≤ 256 → w < 128
       room-for-word l = omega (arith, q .few, passed-weight t s k, passed-on t s k)
@@ -118,12 +115,10 @@ module _ (t : List ℤ) (s : List ℕ) (at : ℕ) (old : Spaces) where
       gather-word {letters} {values} el ev = record {
         within = passed-on t s k .1;
         few = omega (arith, q .few, passed-weight t s k);
-        answers = from-word w n b (v .0) (itemsP (pass t) s p) ∙ ap (answeredFrom w n) (sym (items-on t s k)) ∙ q .answers;
-        stores =
-            ap₂ (λ (x : List ℕ) (y : List ℤ). storedFrom (w + 1) n (gatheredAt t s p) (spaces x y (sp .numbers) (sp .amounts))) el ev
-            ∙ stored-word w n b (v .0) (gatheredAt t s p) sp
-            ∙ ap (λ (e : Took Entry). storedFrom w n e sp) (sym (gathers-on t s k))
-            ∙ q .stores;
+        same =
+            ap₂ (λ (x : List ℕ) (y : List ℤ). leftFrom (w + 1) n (itemsP (pass t) s p) (spaces x y (sp .numbers) (sp .amounts))) el ev
+            ∙ from-word w n sp b (v .0) (itemsP (pass t) s p)
+            ∙ on k;
       }
 
     module _ {m : ℕ} {v : Value} {p : ℕ} (k : Passed t s i (give (settingIs m (v .0))) p) where
@@ -135,42 +130,33 @@ module _ (t : List ℤ) (s : List ℕ) (at : ℕ) (old : Spaces) where
       gather-setting {numbers} {amounts} en ea = record {
         within = passed-on t s k .1;
         few = omega (arith, q .few, passed-weight t s k);
-        answers = from-setting w n m (v .0) (itemsP (pass t) s p) ∙ ap (answeredFrom w n) (sym (items-on t s k)) ∙ q .answers;
-        stores =
-            ap₂ (λ (x : List ℕ) (y : List ℤ). storedFrom w (n + 1) (gatheredAt t s p) (spaces (sp .letters) (sp .values) x y)) en ea
-            ∙ stored-setting w n m (v .0) (gatheredAt t s p) sp
-            ∙ ap (λ (e : Took Entry). storedFrom w n e sp) (sym (gathers-on t s k))
-            ∙ q .stores;
+        same =
+            ap₂ (λ (x : List ℕ) (y : List ℤ). leftFrom w (n + 1) (itemsP (pass t) s p) (spaces (sp .letters) (sp .values) x y)) en ea
+            ∙ from-setting w n sp m (v .0) (itemsP (pass t) s p)
+            ∙ on k;
       }
 
     pub gather-comment : {p : ℕ} → Passed t s i skip p → Gathering t s at old sp w n p
     gather-comment {p} k = record {
       within = passed-on t s k .1;
       few = omega (arith, q .few, passed-on t s k);
-      answers = from-skip w n (itemsP (pass t) s p) ∙ ap (answeredFrom w n) (sym (items-on t s k)) ∙ q .answers;
-      stores = ap (λ (e : Took Entry). storedFrom w n e sp) (sym (gathers-on t s k)) ∙ q .stores;
+      same = from-skip w n sp (itemsP (pass t) s p) ∙ on k;
     }
 
-    -- the ways out: what is stored is all there is to store
+    -- the ways out: what is stored is all there is to store, unless the form is wrong
     pub gather-stop : {k p : ℕ} → Passed t s i (stop k) p → {c : Checked} {r : Reading} → c ≡ checked (itemsP (pass t) s p) → r ≡ refused k c →
-        (r ≡ answered (itemsP (pass t) s at)) × (sp ≡ stored (gatheredAt t s at) old)
-    gather-stop {k} {p} h d e = (
-      e ∙ ap (refused k) d ∙ from-stop w n k (itemsP (pass t) s p) ∙ ap (answeredFrom w n) (sym (items-on t s h)) ∙ q .answers,
-      ap (λ (x : Took Entry). storedFrom w n x sp) (sym (gathers-on t s h)) ∙ q .stores,
-    )
+        tidied r sp ≡ leftBy (itemsP (pass t) s at) old
+    gather-stop {k} {p} h d e = ap (λ (x : Reading). tidied x sp) (e ∙ ap (refused k) d) ∙ from-stop w n sp k (itemsP (pass t) s p) ∙ on h
 
-    pub gather-wrong : {p : ℕ} → Wrong p ≡ itemAt t s i → (NoForm p ≡ answered (itemsP (pass t) s at)) × (sp ≡ stored (gatheredAt t s at) old)
+    pub gather-wrong : {p : ℕ} → Wrong p ≡ itemAt t s i → tidied (NoForm p) sp ≡ leftBy (itemsP (pass t) s at) old
     gather-wrong e =
-        let k = at-wrong t s i e in (
-          ap (answeredFrom w n) (sym (items-none t s i (k .0) (k .1))) ∙ q .answers,
-          ap (λ (x : Took Entry). storedFrom w n x sp) (sym (gathers-none t s i (k .1))) ∙ q .stores,
-        )
+        let k = at-wrong t s i e in
+        ap (λ (m : Placed (Took Entry)). leftFrom w n m sp) (sym (items-none t s i (k .0) (k .1))) ∙ q .same
 
-    pub gather-end : End ≡ itemAt t s i → (Whole w n ≡ answered (itemsP (pass t) s at)) × (sp ≡ stored (gatheredAt t s at) old)
+    pub gather-end : End ≡ itemAt t s i → tidied (Whole w n) sp ≡ leftBy (itemsP (pass t) s at) old
     gather-end e =
-        let k = past-end t s i e in
         let h : w ≡ w + 0 = omega arith in
-        let j : n ≡ n + 0 = omega arith in (
-          ap₂ Whole h j ∙ ap (answeredFrom w n) (sym (items-end (pass t) s i k)) ∙ q .answers,
-          ap (λ (x : Took Entry). storedFrom w n x sp) (sym (gathers-end t s k)) ∙ q .stores,
-        )
+        let j : n ≡ n + 0 = omega arith in
+        ap (λ (x : Reading). left x sp) (ap₂ Whole h j)
+        ∙ ap (λ (m : Placed (Took Entry)). leftFrom w n m sp) (sym (items-end (pass t) s i (past-end t s i e)))
+        ∙ q .same

@@ -97,7 +97,7 @@ module _ (t : List ℤ) where
   step-same (setting v w) = ap₂ settingOf (value-same v) (value-same w)
   step-same (comment bs) = refl
 
-  pub guarded-items : (is : List Item) → entries G is ≡ entries A is
+  guarded-items : (is : List Item) → entries G is ≡ entries A is
   guarded-items [] = refl
   guarded-items (i ∷ is) = ap₂ after (step-same i) (guarded-items is)
 

@@ -9,10 +9,10 @@ pub mod Passing
 pub mod Gathering
 pub mod Beginning
 pub mod Guarding
-pub mod Reading
 pub mod Viable
 pub mod Local
-pub mod Stuck
+pub mod FirstWrong
+pub mod Reading
 pub mod Stops
 pub mod Demand3
 pub mod Soles

@@ -1,24 +1,24 @@
--- One item passed: from the code's answer back to the model's, the bytes it took, and what it adds to what was gathered.
+-- One item passed: from the code's answer back to the model's, the bytes it took, and what it adds to what is read.
 -- Assumes nothing.
 use mathlib.Core.Path.{_≡_, refl, sym, ap, _∙_}
 use mathlib.Core.Bool.{Bool, true, false, cond}
-use mathlib.Core.List.{List, [], _∷_, _++_}
-use Prim.Native.Nat.{ℕ, zero, suc, _+_, _-_, _≤_, _<_}
+use mathlib.Core.List.{List, _∷_}
+use Prim.Native.Nat.{ℕ, _+_, _-_, _≤_, _<_}
 use native.Mathlib.Omega.{arith}
 use borrow.Author.Tests.{ltb-true, ltb-false}
 use lib.Dec.{ltb}
 use lib.IntN.{ℤ}
-use lib.ListN.{length, drop, length-drop, length-append, drop-of-length-le}
+use lib.ListN.{length, drop, length-drop, length-append}
 use Rattle.grammar.specs.Bytes.{byte}
 use Rattle.grammar.specs.Grammar.{Item, word, setting, comment, ItemOk, writeItem, writeValue}
-use Rattle.grammar.specs.Working.{Step, skip, give, stop, end, after, stepOf, entries, value}
-use Rattle.grammar.proofs.Read.{Read, fail, got, bind, mapR, readItem, readItems, itemsOf}
+use Rattle.grammar.specs.Working.{Step, skip, give, stop, after, stepOf, value}
+use Rattle.grammar.proofs.Read.{Read, fail, got, mapR, readItem}
 use Rattle.grammar.proofs.LineBack.{item-writes}
-use Rattle.grammar.proofs.Sound.{Good, nothing, front, item-good}
+use Rattle.grammar.proofs.Sound.{Good, front, item-good}
 use Rattle.grammar.proofs.OnePass.{item-same}
 use Rattle.grammar.proofs.Fuel.{shorter}
 use Rattle.grammar.proofs.Lengths.{value-bytes}
-use Rattle.grammar.proofs.Place.{Placed, wrong, found, bindP, mapP, place, Sits, sits, good-sits}
+use Rattle.grammar.proofs.Place.{Placed, wrong, found, bindP, mapP, place}
 use Rattle.grammar.proofs.Items.{itemP, itemsP, items-place}
 use Rattle.rules.specs.Meaning.{Entry, wordIs, settingIs, wordOf, settingOf, settingAt, parameterOf}
 use Rattle.rules.specs.declared.Value.{Value}
@@ -28,8 +28,6 @@ use Rattle.rules.specs.declared.Parameter.{Parameter}
 use Rattle.rules.specs.declared.Parameter.the-variants.{Number as Numbered, Outside}
 use Rattle.reader.specs.Pass.{pass, guarded}
 use Rattle.reader.specs.Places.{itemIs, itemAt}
-use Rattle.reader.specs.Underived.{leadingBy, leadingIn, leading}
-use Rattle.reader.specs.Gather.{gatheredAt}
 use Rattle.reader.specs.declared.items.Item.{Item as Answer}
 use Rattle.reader.specs.declared.items.Item.the-variants.{Word, Setting, Comment, Stop, Wrong, End}
 use Rattle.reader.proofs.Clash.{clash}
@@ -169,70 +167,9 @@ module _ (t : List ℤ) (s : List ℕ) {i p : ℕ} {st : Step Entry} (q : Passed
           let e : stepOf (guarded t) j ≡ st = cc in
           omega (arith, q .inside, shorter (drop i s) (writeItem j) r d, item-weight t j o, ap weight e, length-drop i s)
 
--- ---- the items at the front
-
-lead-agree : {s : List ℕ} {m : Read Item} (k k′ : List ℕ → List Item) → Good writeItem ItemOk s m →
-    ((j : Item) (r : List ℕ) → s ≡ writeItem j ++ r → k r ≡ k′ r) → leadingBy m k ≡ leadingBy m k′
-lead-agree k k′ nothing h = refl
-lead-agree k k′ (front {a = j} {r = r} e o) h = ap (λ (x : List Item). j ∷ x) (h j r e)
-
--- fuel past the bytes to read changes nothing
-lead-fuel : (f g : ℕ) (s : List ℕ) → length s < f → length s < g → leadingIn f s ≡ leadingIn g s
-lead-fuel zero g s a b = absurd (omega arith)
-lead-fuel (suc f) zero s a b = absurd (omega arith)
-lead-fuel (suc f) (suc g) s a b =
-    lead-agree _ _ (item-good s) (λ j r e. lead-fuel f g r (omega (arith, shorter s (writeItem j) r e, item-writes j)) (omega (arith, shorter s (writeItem j) r e, item-writes j)))
-
-lead-eq : (s : List ℕ) → leading s ≡ leadingBy (readItem s) leading
-unfolding leading
-lead-eq s = lead-agree _ _ (item-good s) (λ j r e. lead-fuel (length s) (suc (length r)) r (omega (arith, shorter s (writeItem j) r e, item-writes j)) (omega arith))
-
--- where all items are read, they are the items at the front
-read-leads : (f : ℕ) (s : List ℕ) {is : List Item} {r : List ℕ} → readItems f s ≡ got is r → leadingIn f s ≡ is
-read-leads zero s e = clash (cc)
-read-leads (suc f) [] e = cc
-read-leads (suc f) (b ∷ s) {is} {r} e = go (readItem (b ∷ s)) (λ q js z h. read-leads f q h) e
-  where
-    next : (j : Item) (q : List ℕ) (m : Read (List Item)) → ((js : List Item) (z : List ℕ) → m ≡ got js z → leadingIn f q ≡ js) → mapR (λ l. j ∷ l) m ≡ got is r → j ∷ leadingIn f q ≡ is
-    next j q (fail z) h k = clash (cc)
-    next j q (got js z) h k = ap (λ (x : List Item). j ∷ x) (h js z refl) ∙ cc
-
-    go : (m : Read Item) → ((q : List ℕ) (js : List Item) (z : List ℕ) → readItems f q ≡ got js z → leadingIn f q ≡ js) →
-        bind m (λ j q. mapR (λ l. j ∷ l) (readItems f q)) ≡ got is r → leadingBy m (λ q. leadingIn f q) ≡ is
-    go (fail z) h k = clash (cc)
-    go (got j q) h k = next j q (readItems f q) (h q) k
-
-pub all-lead : (s : List ℕ) {is : List Item} {r : List ℕ} → itemsOf s ≡ got is r → leading s ≡ is
-unfolding itemsOf leading
-all-lead s e = read-leads (suc (length s)) s e
-
 -- ---- what an item adds
 
 module _ (t : List ℤ) (s : List ℕ) where
-  pub gathers-on : {i p : ℕ} {st : Step Entry} → Passed t s i st p → gatheredAt t s i ≡ after st (gatheredAt t s p)
-  unfolding gatheredAt
-  gathers-on {i} {p} {st} q = ap (entries (guarded t)) (lead-eq (drop i s)) ∙ go (readItem (drop i s)) (good-sits s i (item-good (drop i s))) (read-is t s q)
-    where
-      go : (m : Read Item) → Sits s m → place s (mapR (stepOf (guarded t)) m) ≡ found st p → entries (guarded t) (leadingBy m leading) ≡ after st (entries (guarded t) (leading (drop p s)))
-      go (fail z) g h = clash (cc)
-      go (got j r) (sits e) h =
-          let k : length s - length r ≡ p = cc in
-          let d : stepOf (guarded t) j ≡ st = cc in
-          let f : r ≡ drop p s = e ∙ ap (λ (x : ℕ). drop x s) k in
-          rw (d, f)
-
-  pub gathers-none : (i : ℕ) {p : ℕ} → itemP (pass t) s i ≡ wrong p → gatheredAt t s i ≡ end
-  unfolding gatheredAt itemP
-  gathers-none i {p} e = ap (entries (guarded t)) (lead-eq (drop i s)) ∙ go (readItem (drop i s)) (sym (ap (place s) (item-same (pass t) (drop i s))) ∙ e)
-    where
-      go : (m : Read Item) → place s (mapR (stepOf (guarded t)) m) ≡ wrong p → entries (guarded t) (leadingBy m leading) ≡ end
-      go (fail z) h = refl
-      go (got j r) h = clash (cc)
-
-  pub gathers-end : {i : ℕ} → length s ≤ i → gatheredAt t s i ≡ end
-  unfolding gatheredAt
-  gathers-end {i} h = ap (λ (x : List ℕ). entries (guarded t) (leading x)) (drop-of-length-le s h) ∙ ap (entries (guarded t)) (lead-eq [])
-
   pub items-on : {i p : ℕ} {st : Step Entry} → Passed t s i st p → itemsP (pass t) s i ≡ mapP (after st) (itemsP (pass t) s p)
   items-on {i} {p} {st} q = items-place (pass t) s i (q .inside) ∙ ap (λ (m : Placed (Step Entry)). bindP m (λ j r. mapP (after j) (itemsP (pass t) s r))) (q .is)
 

@@ -1,20 +1,20 @@
 -- From the prepared bytes to the derivation: whoever reads as the model does leaves what the derivation says.
 -- Assumes nothing.
-use mathlib.Core.Path.{_≡_, refl, sym, ap, ap₂, _∙_}
+use mathlib.Core.Path.{_≡_, refl, sym, ap, _∙_}
 use mathlib.Core.Bool.{Bool, true, false, cond}
 use mathlib.Core.List.{List, [], _++_}
 use mathlib.Core.Option.{Option, none, some}
-use Prim.Native.Nat.{ℕ, _+_, _-_, _≤_, _<_}
+use Prim.Native.Nat.{ℕ, _-_, _≤_, _<_}
 use native.Mathlib.Omega.{arith}
 use borrow.Author.Tests.{leb-true, leb-false, le-ltb, lt-ltb}
 use lib.Dec.{leb}
 use lib.IntN.{ℤ}
 use lib.ListN.{length, take, drop, length-append}
 use lib.Seq.{take-at}
-use Rattle.grammar.specs.Grammar.{Item, Line, line, Slash, Label}
+use Rattle.grammar.specs.Grammar.{Line}
 use Rattle.grammar.specs.Derivation.{strip, Derives, ByForm}
-use Rattle.grammar.specs.Working.{Arithmetic, Took, entries, lineEntries}
-use Rattle.grammar.proofs.Read.{Read, fail, got, bind, mapR, readSlash, readLabel, readLine, itemsOf}
+use Rattle.grammar.specs.Working.{Took, lineEntries}
+use Rattle.grammar.proofs.Read.{Read, fail, got, mapR, readLine}
 use Rattle.grammar.proofs.LineBack.{line-back}
 use Rattle.grammar.proofs.Lengths.{strip-length}
 use Rattle.grammar.proofs.OnePass.{line-same}
@@ -23,19 +23,18 @@ use Rattle.grammar.proofs.Items.{lineP}
 use Rattle.grammar.proofs.ByForm.{by-pass, byLine}
 use Rattle.rules.specs.Meaning.{Entry, arithmetic}
 use Rattle.rules.specs.Promise.{panel}
-use Rattle.rules.specs.declared.Worked.{Worked}
 use Rattle.reader.specs.Pass.{pass, guarded}
 use Rattle.reader.specs.Prepare.{bytesOf, prepared}
-use Rattle.reader.specs.Underived.{stuck, leading, pastBeginning, leadingAfter, gathered}
-use Rattle.reader.specs.Reading.{Spaces, stored, left, leaves, Reads}
-use Rattle.reader.specs.Gather.{checked, answered}
+use Rattle.reader.specs.Underived.{FirstWrong}
+use Rattle.reader.specs.Reading.{Spaces, left, Reads}
+use Rattle.reader.specs.Gather.{checked, leftBy}
 use Rattle.reader.specs.declared.text.Prepared.the-variants.{Bytes, TooLong as NoRoom}
 use Rattle.reader.specs.declared.line.Checked.{Checked}
 use Rattle.reader.specs.declared.line.Checked.the-variants.{Right, Wrong as Broken}
 use Rattle.reader.specs.declared.line.Reading.{Reading}
 use Rattle.reader.specs.declared.line.Reading.the-variants.{TooLong}
-use Rattle.reader.proofs.Guarding.{guarded-items, guarded-line}
-use Rattle.reader.proofs.Passing.{all-lead}
+use Rattle.reader.proofs.Guarding.{guarded-line}
+use Rattle.reader.proofs.FirstWrong.{first-wrong}
 use Rattle.reader.proofs.Clash.{clash}
 
 -- ---- the prepared bytes
@@ -88,24 +87,6 @@ module _ (t : List ℤ) (s : List ℕ) where
   unfolding lineP
   by-line = ap (place s) (line-same (pass t) s)
 
--- the items at the front of a derived line are its items
-items-lead : (s : List ℕ) (u : Line) (A : Arithmetic Worked Entry) → readLine s ≡ got u [] → gathered A s ≡ lineEntries A u
-unfolding gathered
-items-lead s u A e = go (readSlash s) e
-  where
-    items : (sl : Slash) (n : Label) (q : List ℕ) (m : Read (List Item)) → itemsOf q ≡ m → mapR (line sl n) m ≡ got u [] → entries A (leading q) ≡ lineEntries A u
-    items sl n q (fail z) h k = clash (cc)
-    items sl n q (got is r) h k = ap (entries A) (all-lead q h) ∙ ap (lineEntries A) (let d : line sl n is ≡ u = cc in d)
-
-    label : (sl : Slash) (m : Read Label) → bind m (λ n q. mapR (line sl n) (itemsOf q)) ≡ got u [] → entries A (leadingAfter (bind m (λ _ r. got tt r))) ≡ lineEntries A u
-    label sl (fail z) k = clash (cc)
-    label sl (got n q) k = items sl n q (itemsOf q) refl k
-
-    go : (m : Read Slash) → bind m (λ sl r. bind (readLabel r) (λ n q. mapR (line sl n) (itemsOf q))) ≡ got u [] →
-        entries A (leadingAfter (bind m (λ _ r. bind (readLabel r) (λ _ q. got tt q)))) ≡ lineEntries A u
-    go (fail z) k = clash (cc)
-    go (got sl r) k = label sl (readLabel r) k
-
 -- what was found, or nothing
 abbrev foundIn : Placed (Took Entry) → Option (Took Entry)
 foundIn (wrong p) = none
@@ -123,47 +104,44 @@ module _ (t : List ℤ) (l : List ℕ) where
     line-found : lineP (pass t) (strip l) ≡ found (lineEntries (arithmetic t) u) (length (strip l) - 0)
     line-found = by-line t (strip l) ∙ ap (λ (m : Read Line). place (strip l) (mapR (lineEntries (guarded t)) m)) read-back ∙ ap (λ (e : Took Entry). found e (length (strip l) - 0)) (guarded-line t u)
 
-    gathered-tree : gathered (guarded t) (strip l) ≡ lineEntries (arithmetic t) u
-    gathered-tree = items-lead (strip l) u (guarded t) read-back ∙ guarded-line t u
-
   -- a line that has no derivation
   module _ (none-at-all : (u : Line) → ¬ Derives u l) where
-    pub none-fails : (q : List ℕ) × (readLine (strip l) ≡ fail q)
+    none-fails : (q : List ℕ) × (readLine (strip l) ≡ fail q)
     none-fails = go (readLine (strip l)) refl (ap foundIn (sym (by-line t (strip l))) ∙ by-found .byNone none-at-all)
       where
         go : (m : Read Line) → readLine (strip l) ≡ m → foundIn (place (strip l) (mapR (lineEntries (guarded t)) (readLine (strip l)))) ≡ none → (q : List ℕ) × (readLine (strip l) ≡ fail q)
         go (fail q) e h = (q, e)
         go (got u q) e h = let k : foundIn (place (strip l) (mapR (lineEntries (guarded t)) (got u q))) ≡ none = rw e at h in clash (cc)
 
-    line-stuck : lineP (pass t) (strip l) ≡ wrong (stuck (strip l))
-    unfolding stuck
-    line-stuck = by-line t (strip l) ∙ rw (none-fails .1)
+    -- the pass stops where the line is wrong first
+    record Stuck : Type 0 where
+      place : ℕ
+      first : FirstWrong (strip l) place
+      is : lineP (pass t) (strip l) ≡ wrong place
 
-  gathered-any : gathered (guarded t) (strip l) ≡ gathered (arithmetic t) (strip l)
-  unfolding gathered
-  gathered-any = guarded-items t (leadingAfter (pastBeginning (strip l)))
+    line-stuck : Stuck
+    line-stuck =
+        let k = none-fails in
+        record { place = length (strip l) - length (k .0); first = first-wrong (strip l) (k .0) (k .1); is = by-line t (strip l) ∙ rw (k .1) }
 
 -- ---- the two promises
 
 -- a line of at most 256 bytes, read as the model reads it
 pub reads-by-form : (t : List ℤ) (l : List ℕ) (old : Spaces) {text : List ℕ} {r : Reading} {sp : Spaces} → length l ≤ 256 → text ≡ strip l →
-    (r ≡ answered (lineP (pass t) text)) × (sp ≡ stored (gathered (guarded t) text) old) → Reads l t old r sp
-unfolding leaves
-reads-by-form t l old {text} {r} {sp} h f e = record {
-  byTree = λ u d. ap₂ left
-      (e .0 ∙ ap (λ (x : List ℕ). answered (lineP (pass t) x)) f ∙ ap answered (line-found t l d))
-      (e .1 ∙ ap (λ (x : List ℕ). stored (gathered (guarded t) x) old) f ∙ ap (λ (x : Took Entry). stored x old) (gathered-tree t l d))
-      ∙ rw (le-ltb 256 (length l) h);
-  byNone = λ n. ap₂ left
-      (e .0 ∙ ap (λ (x : List ℕ). answered (lineP (pass t) x)) f ∙ ap answered (line-stuck t l n))
-      (e .1 ∙ ap (λ (x : List ℕ). stored (gathered (guarded t) x) old) f ∙ ap (λ (x : Took Entry). stored x old) (gathered-any t l))
-      ∙ rw (le-ltb 256 (length l) h);
-}
+    left r sp ≡ leftBy (lineP (pass t) text) old → Reads l t old r sp
+reads-by-form t l old {text} {r} {sp} h f e =
+    let k : left r sp ≡ leftBy (lineP (pass t) (strip l)) old = e ∙ ap (λ (x : List ℕ). leftBy (lineP (pass t) x) old) f in
+    record {
+      byLength = λ g. absurd (omega arith);
+      byTree = λ _ u d. k ∙ ap (λ (m : Placed (Took Entry)). leftBy m old) (line-found t l d);
+      byNone = λ _ n.
+          let w = line-stuck t l n in
+          record { place = w .place; first = w .first; is = k ∙ ap (λ (m : Placed (Took Entry)). leftBy m old) (w .is) };
+    }
 
 -- a longer one
 pub long-by-form : (t : List ℤ) (l : List ℕ) (old : Spaces) → 256 < length l → Reads l t old TooLong old
-unfolding leaves
-long-by-form t l old h = record { byTree = λ u d. rw (lt-ltb 256 (length l) h); byNone = λ n. rw (lt-ltb 256 (length l) h) }
+long-by-form t l old h = record { byLength = λ g. refl; byTree = λ g u d. absurd (omega arith); byNone = λ g n. absurd (omega arith) }
 
 -- the number of a form that was checked
 abbrev numbered : Checked → ℕ
@@ -174,7 +152,7 @@ pub form-by-form : (t : List ℤ) (l : List ℕ) {text : List ℕ} {c : Checked}
 unfolding panel
 form-by-form t l {text} {c} h f e = record {
   byTree = λ u d. ap numbered (e ∙ ap (λ (x : List ℕ). checked (lineP (pass t) x)) f ∙ ap checked (line-found t l d)) ∙ rw (le-ltb 256 (length l) h);
-  byNone = λ n. ap numbered (e ∙ ap (λ (x : List ℕ). checked (lineP (pass t) x)) f ∙ ap checked (line-stuck t l n)) ∙ rw (le-ltb 256 (length l) h);
+  byNone = λ n. ap numbered (e ∙ ap (λ (x : List ℕ). checked (lineP (pass t) x)) f ∙ ap checked (line-stuck t l n .is)) ∙ rw (le-ltb 256 (length l) h);
 }
 
 pub long-form : (l : List ℕ) → 256 < length l → ByForm l (panel l) 2

@@ -3,6 +3,7 @@
 use mathlib.Core.Path.{refl}
 use Rattle.laws.proofs.Sole.{Sole}
 use Rattle.grammar.proofs.ByForm.{by-form-sole}
+use Rattle.reader.proofs.Demand3.{reads-one}
 use Rattle.reader.proofs.line.read as read
 use Rattle.reader.proofs.line.form as form
 
@@ -11,7 +12,7 @@ read-sole = record {
   says = _;
   is = λ M 𝓤 H A m n κs a g r e. refl;
   one = λ κs a r r′ ws ws′ p q.
-      let e = by-form-sole p q in
+      let e = reads-one p q in
       (λ i. e i .answer, λ i. (tt, (tt, (e i .lent .letters, (e i .lent .values, (e i .lent .numbers, (e i .lent .amounts, tt)))))));
 }
 

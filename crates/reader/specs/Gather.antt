@@ -1,19 +1,14 @@
 -- The items of a prepared line one after another, from what the grammar's reader by places says.
 -- Assumes nothing.
-use mathlib.Core.List.{List}
 use Prim.Native.Nat.{ℕ}
-use lib.IntN.{ℤ}
-use lib.ListN.{drop}
-use Rattle.grammar.specs.Working.{Took, entries}
+use Rattle.grammar.specs.Working.{Took}
 use Rattle.grammar.proofs.Place.{Placed, wrong, found}
 use Rattle.rules.specs.Meaning.{Entry}
-use Rattle.reader.specs.Pass.{guarded}
-use Rattle.reader.specs.Underived.{leading}
-use Rattle.reader.specs.Reading.{outcome}
+use Rattle.reader.specs.Reading.{Spaces, zeros, stored, outcome, Left, left}
 use Rattle.reader.specs.declared.line.Checked.{Checked}
 use Rattle.reader.specs.declared.line.Checked.the-variants.{Right, Wrong as Broken}
 use Rattle.reader.specs.declared.line.Reading.{Reading}
-use Rattle.reader.specs.declared.line.Reading.the-variants.{Stopped, Wrong}
+use Rattle.reader.specs.declared.line.Reading.the-variants.{Read as Whole, Stopped, Wrong, TooLong}
 
 -- whether the form is right to the end
 abbrev pub checked : Placed (Took Entry) → Checked
@@ -25,11 +20,14 @@ abbrev pub refused : ℕ → Checked → Reading
 refused n Right = Stopped n
 refused n (Broken p) = Wrong p
 
--- the answer for what was read
-abbrev pub answered : Placed (Took Entry) → Reading
-answered (wrong p) = Wrong p
-answered (found e p) = outcome e
+-- what a pass over items leaves
+abbrev pub leftBy : Placed (Took Entry) → Spaces → Left
+leftBy (wrong p) old = left (Wrong p) zeros
+leftBy (found e p) old = left (outcome e) (stored e old)
 
--- the words and settings of the items at the front of what is left from a place on
-unfoldable pub gatheredAt : List ℤ → List ℕ → ℕ → Took Entry
-gatheredAt table s at = entries (guarded table) (leading (drop at s))
+-- an answer and the spaces, once those of a wrong form are cleared
+abbrev pub tidied : Reading → Spaces → Left
+tidied (Whole w n) lent = left (Whole w n) lent
+tidied (Stopped n) lent = left (Stopped n) lent
+tidied (Wrong p) lent = left (Wrong p) zeros
+tidied TooLong lent = left TooLong lent

@@ -1,18 +1,17 @@
--- What `read` leaves: its answer, and what each lent space holds. It is said by the derivation of the line.
+-- What `read` leaves: its answer, and what each lent space holds. It is said by the derivation of the line, or by its having none.
 -- Assumes nothing.
-use mathlib.Core.Bool.{cond}
+use mathlib.Core.Path.{_≡_}
 use mathlib.Core.List.{List, map}
 use mathlib.Core.Option.{Option, none, some}
-use Prim.Native.Nat.{ℕ}
-use lib.Dec.{ltb}
-use lib.IntN.{ℤ}
-use lib.ListN.{length}
+use Prim.Native.Nat.{ℕ, _≤_, _<_}
+use lib.IntN.{ℤ, pos}
+use lib.ListN.{length, replicate}
 use lib.Seq.{sets}
 use Rattle.grammar.specs.Grammar.{Line}
-use Rattle.grammar.specs.Derivation.{strip, ByForm}
-use Rattle.grammar.specs.Working.{Took, end, stopped, took}
-use Rattle.rules.specs.Meaning.{Entry, Said, Setting, arithmetic, reading, words, settings}
-use Rattle.reader.specs.Underived.{stuck, gathered}
+use Rattle.grammar.specs.Derivation.{strip, Derives}
+use Rattle.grammar.specs.Working.{Took, end, stopped, took, lineEntries}
+use Rattle.rules.specs.Meaning.{Entry, Said, Setting, arithmetic, words, settings}
+use Rattle.reader.specs.Underived.{FirstWrong}
 use Rattle.reader.specs.declared.line.Reading.{Reading}
 use Rattle.reader.specs.declared.line.Reading.the-variants.{Read as Whole, Stopped, Wrong, TooLong}
 
@@ -28,6 +27,10 @@ pub record Spaces : Type 0 where
 -- the four of them
 abbrev pub spaces : List ℕ → List ℤ → List ℕ → List ℤ → Spaces
 spaces letters values numbers amounts = record { letters = letters; values = values; numbers = numbers; amounts = amounts }
+
+-- nothing but zeros in all of them
+abbrev pub zeros : Spaces
+zeros = spaces (replicate 128 0) (replicate 128 (pos 0)) (replicate 64 0) (replicate 64 (pos 0))
 
 -- what was read is stored in order, words from place w on and settings from place n on; all else stays as it was
 abbrev pub storedFrom : ℕ → ℕ → Took Entry → Spaces → Spaces
@@ -70,15 +73,19 @@ pub record Left : Type 0 where
 abbrev pub left : Reading → Spaces → Left
 left answer lent = record { answer = answer; lent = lent }
 
--- for a line of at most 256 bytes: by what its derivation gives, or by where it is wrong
-abbrev pub leftBy : List ℕ → List ℤ → Spaces → Option (Took Entry) → Left
-leftBy line table old none = left (Wrong (stuck (strip line))) (stored (gathered (arithmetic table) (strip line)) old)
-leftBy line table old (some e) = left (outcome e) (stored e old)
+-- for a line that a tree derives: the answer for the tree's words and settings, and these stored
+abbrev pub leaves : List ℤ → Spaces → Line → Left
+leaves table old t = left (outcome (lineEntries (arithmetic table) t)) (stored (lineEntries (arithmetic table) t) old)
 
--- for any line, and for a derivation of it, or for none
-unfoldable pub leaves : List ℕ → List ℤ → Spaces → Option Line → Left
-leaves line table old f = cond (ltb 256 (length line)) (left TooLong old) (leftBy line table old (reading table f))
+-- for prepared bytes that no tree writes: the first place that is wrong, and nothing of what was read by then
+pub record LeavesNone (s : List ℕ) (answer : Reading) (lent : Spaces) : Type 0 where
+  pub place : ℕ
+  pub first : FirstWrong s place
+  pub is : left answer lent ≡ left (Wrong place) zeros
 
--- where a tree derives the line, what is left is what that tree gives; where none does, what is left for none
-abbrev pub Reads : List ℕ → List ℤ → Spaces → Reading → Spaces → Type 0
-Reads line table old answer lent = ByForm line (leaves line table old) (left answer lent)
+-- for any line: one of more than 256 bytes is not read; where a tree derives a shorter one, what is left is what that tree gives; where none does, the
+-- place of the wrong form is told
+pub record Reads (line : List ℕ) (table : List ℤ) (old : Spaces) (answer : Reading) (lent : Spaces) : Type 0 where
+  pub byLength : 256 < length line → left answer lent ≡ left TooLong old
+  pub byTree : length line ≤ 256 → (t : Line) → Derives t line → left answer lent ≡ leaves table old t
+  pub byNone : length line ≤ 256 → ((t : Line) → ¬ Derives t line) → LeavesNone (strip line) answer lent

@@ -6,11 +6,10 @@ ghost use lib.ListN.{length, set};
 ghost use Rattle.grammar.specs.Derivation.{ByForm};
 ghost use Rattle.grammar.proofs.Items.{itemsP, labelP, lineP};
 ghost use Rattle.rules.specs.Promise.{panel};
-ghost use Rattle.reader.specs.Pass.{pass, guarded};
+ghost use Rattle.reader.specs.Pass.{pass};
 ghost use Rattle.reader.specs.Places.{labelEnd, slashEnd};
-ghost use Rattle.reader.specs.Gather.{checked, refused, answered, gatheredAt};
-ghost use Rattle.reader.specs.Underived.{gathered};
-ghost use Rattle.reader.specs.Reading.{spaces, stored, Reads};
+ghost use Rattle.reader.specs.Gather.{checked, refused, leftBy, tidied};
+ghost use Rattle.reader.specs.Reading.{spaces, zeros, Reads};
 use super::cursor::item_from;
 use super::items::Item;
 use super::numbers::digits_from;
@@ -25,7 +24,8 @@ pub enum Reading {
     Read(usize, usize),
     // Its form is right, but it is refused with this number, 4 to 7: the first in working order.
     Stopped(u8),
-    // It has no derivation. The place, among the prepared bytes, of the first at which it cannot go on.
+    // It has no derivation. The place, among the prepared bytes, of the first at which it cannot go on;
+    // the lent spaces hold zeros.
     Wrong(usize),
     // It has more than 256 bytes.
     TooLong,
@@ -143,7 +143,7 @@ fn gather(
     amounts: &mut [i64; 64],
 ) -> Reading
     requires { ⌜ (at ≤ length (now text)) × (length (now text) ≤ 256) ⌝ }
-    ensures { λ r. ⌜ (r ≡ answered (itemsP (pass (now (table .entry))) (now (text .entry)) at)) × (spaces (now (letters .exit)) (now (values .exit)) (now (numbers .exit)) (now (amounts .exit)) ≡ stored (gatheredAt (now (table .entry)) (now (text .entry)) at) (spaces (now (letters .entry)) (now (values .entry)) (now (numbers .entry)) (now (amounts .entry)))) ⌝ }
+    ensures { λ r. ⌜ tidied r (spaces (now (letters .exit)) (now (values .exit)) (now (numbers .exit)) (now (amounts .exit))) ≡ leftBy (itemsP (pass (now (table .entry))) (now (text .entry)) at) (spaces (now (letters .entry)) (now (values .entry)) (now (numbers .entry)) (now (amounts .entry))) ⌝ }
 {
     let mut words: usize = 0;
     let mut settings: usize = 0;
@@ -186,12 +186,27 @@ fn read_text(
     amounts: &mut [i64; 64],
 ) -> Reading
     requires { ⌜ length (now text) ≤ 256 ⌝ }
-    ensures { λ r. ⌜ (r ≡ answered (lineP (pass (now (table .entry))) (now (text .entry)))) × (spaces (now (letters .exit)) (now (values .exit)) (now (numbers .exit)) (now (amounts .exit)) ≡ stored (gathered (guarded (now (table .entry))) (now (text .entry))) (spaces (now (letters .entry)) (now (values .entry)) (now (numbers .entry)) (now (amounts .entry)))) ⌝ }
+    ensures { λ r. ⌜ tidied r (spaces (now (letters .exit)) (now (values .exit)) (now (numbers .exit)) (now (amounts .exit))) ≡ leftBy (lineP (pass (now (table .entry))) (now (text .entry))) (spaces (now (letters .entry)) (now (values .entry)) (now (numbers .entry)) (now (amounts .entry))) ⌝ }
 {
     match label_end(text, slash_end(text)) {
         Spelt::To(p) => gather(text, table, p, letters, values, numbers, amounts),
         Spelt::Not(p) => Reading::Wrong(p),
     }
+}
+
+// Nothing of a line of wrong form is left to be taken for a word or a setting.
+fn clear(
+    letters: &mut [u8; 128],
+    values: &mut [i64; 128],
+    numbers: &mut [usize; 64],
+    amounts: &mut [i64; 64],
+)
+    ensures { λ r. ⌜ spaces (now (letters .exit)) (now (values .exit)) (now (numbers .exit)) (now (amounts .exit)) ≡ zeros ⌝ }
+{
+    *letters = [0u8; 128];
+    *values = [0i64; 128];
+    *numbers = [0usize; 64];
+    *amounts = [0i64; 64];
 }
 
 // Reads a line: its words' letters and values, and its settings' parameter numbers and values, are
@@ -207,10 +222,14 @@ pub fn read(
     ensures { λ r. ⌜ Reads (now (line .entry)) (now (table .entry)) (spaces (now (letters .entry)) (now (values .entry)) (now (numbers .entry)) (now (amounts .entry))) r (spaces (now (letters .exit)) (now (values .exit)) (now (numbers .exit)) (now (amounts .exit))) ⌝ }
 {
     let mut text = [0u8; 256];
-    match prepare(line, &mut text) {
-        Prepared::Bytes(n) => read_text(&text[..n], table, letters, values, numbers, amounts),
-        Prepared::TooLong => Reading::TooLong,
+    let Prepared::Bytes(n) = prepare(line, &mut text) else {
+        return Reading::TooLong;
+    };
+    let reading = read_text(&text[..n], table, letters, values, numbers, amounts);
+    if let Reading::Wrong(_) = reading {
+        clear(letters, values, numbers, amounts);
     }
+    reading
 }
 
 // The form of a prepared line. Values are worked out on the way, so a table is lent; what is in it makes

@@ -1,5 +1,6 @@
 use mathlib.Core.Path.{refl}
-use Rattle.control.proofs.Keeping.{zeros, kept-read, kept-refused}
+use Rattle.reader.specs.Reading.{zeros}
+use Rattle.control.proofs.Keeping.{kept-read, kept-refused}
 use borrow.Author.Needs.{needs}
 use Rattle.control.proofs.read_and_work.Statement.{statement}
 use Rattle.control.proofs.read_and_work.Tie as tie

@@ -1,6 +1,13 @@
-use Rattle.reader.specs.Reading.{spaces}
+use mathlib.Core.Path.{_≡_, refl, ap₂, _∙_}
+use mathlib.Core.List.{[], _∷_}
+use denote.Enum.Declared.{tagOf}
+use types.Run.{OneOf, miss}
+use Rattle.reader.specs.Reading.{Spaces, spaces, left}
+use Rattle.reader.specs.Gather.{tidied}
+use Rattle.reader.specs.declared.line.Reading.{Reading}
+use Rattle.reader.specs.declared.line.Reading.the-variants.{Read as Whole, Stopped, Wrong, TooLong}
+use Rattle.reader.proofs.line.Reading.{the-type}
 use Rattle.reader.proofs.Reading.{front-is, front-within, front-long, front-short, short, too-long, reads-by-form, long-by-form}
-use mathlib.Core.Path.{refl}
 use borrow.Author.Needs.{needs}
 use Rattle.reader.proofs.line.read.Statement.{statement}
 use Rattle.reader.proofs.line.read.Tie as tie
@@ -8,6 +15,13 @@ use Rattle.reader.proofs.line.read.Reads as reads
 use Rattle.reader.proofs.line.read.Lts as lts
 use Rattle.reader.proofs.line.read_text.Reads as read-text-reads
 use Rattle.reader.proofs.text.prepare.Reads as prepare-reads
+
+-- the spaces of a line that is not of wrong form stay as they are
+not-wrong : (r : Reading) {sp : Spaces} → OneOf (0 ∷ 1 ∷ 3 ∷ []) (tagOf the-type r) → left r sp ≡ tidied r sp
+not-wrong (Whole w n) h = refl
+not-wrong (Stopped n) h = refl
+not-wrong (Wrong p) h = absurd (miss (0 ∷ 1 ∷ 3 ∷ []) 2 tt h)
+not-wrong TooLong h = refl
 
 slice-aggregate-prepare : tie.Need-slice-aggregate-prepare
 slice-aggregate-prepare c = search needs
@@ -18,6 +32,15 @@ prepare-requires c κs = search needs
 enum-known-n : tie.Need-enum-known-n
 enum-known-n c = search needs
 
+enum-told : tie.Need-enum-told
+enum-told c = search needs
+
+returns : tie.Need-returns
+returns c =
+    let s = c .before .before .before .before .before .before in
+    long-by-form (s .args .table .now) (s .args .line .now) (spaces (s .args .letters .now) (s .args .values .now) (s .args .numbers .now) (s .args .amounts .now))
+    (too-long (s .args .line .now) _ refl (rw (c .enum-told .given .1) at (c .before .before .before .prepare .ensures .0)))
+
 array-share-prefix-text : tie.Need-array-share-prefix-text
 array-share-prefix-text c = front-within (c .before .before .before .before .before .before .before .args .line .now) _ refl (rw (c .before .n .given .1) at (c .before .before .before .before .prepare .ensures .0)) (c .before .before .before .before .prepare .ensures .1)
 
@@ -27,14 +50,28 @@ slice-aggregate-read-text c = front-long (c .before .before .before .before .bef
 read-text-requires : tie.Need-read-text-requires
 read-text-requires c κs = front-short (c .before .before .before .before .before .before .before .before .before .before .before .before .args .line .now) _ refl (rw (c .before .before .before .before .before .before .n .given .1) at (c .before .before .before .before .before .before .before .before .before .prepare .ensures .0)) (c .before .before .before .before .before .before .before .before .before .prepare .ensures .1)
 
-enum-told : tie.Need-enum-told
-enum-told c = search needs
+enum-told-2 : tie.Need-enum-told-2
+enum-told-2 c = search needs
 
-returns : tie.Need-returns
-returns c = reads-by-form (c .before .before .before .before .before .before .before .before .before .before .before .before .before .args .table .now) (c .before .before .before .before .before .before .before .before .before .before .before .before .before .args .line .now) (spaces (c .before .before .before .before .before .before .before .before .before .before .before .before .before .args .letters .now) (c .before .before .before .before .before .before .before .before .before .before .before .before .before .args .values .now) (c .before .before .before .before .before .before .before .before .before .before .before .before .before .args .numbers .now) (c .before .before .before .before .before .before .before .before .before .before .before .before .before .args .amounts .now)) (short (c .before .before .before .before .before .before .before .before .before .before .before .before .before .args .line .now) _ refl (rw (c .before .before .before .before .before .before .before .n .given .1) at (c .before .before .before .before .before .before .before .before .before .before .prepare .ensures .0)) (c .before .before .before .before .before .before .before .before .before .before .prepare .ensures .1)) (front-is (c .before .before .before .before .before .before .before .before .before .before .before .before .before .args .line .now) _ refl (rw (c .before .before .before .before .before .before .before .n .given .1) at (c .before .before .before .before .before .before .before .before .before .before .prepare .ensures .0)) (c .before .before .before .before .before .before .before .before .before .before .prepare .ensures .1)) (c .read-text .ensures)
+clear-requires : tie.Need-clear-requires
+clear-requires c κs = search needs
 
 returns-2 : tie.Need-returns-2
-returns-2 c = long-by-form (c .before .before .before .before .before .before .args .table .now) (c .before .before .before .before .before .before .args .line .now) (spaces (c .before .before .before .before .before .before .args .letters .now) (c .before .before .before .before .before .before .args .values .now) (c .before .before .before .before .before .before .args .numbers .now) (c .before .before .before .before .before .before .args .amounts .now)) (too-long (c .before .before .before .before .before .before .args .line .now) _ refl (rw (c .enum-told .given .1) at (c .before .before .before .prepare .ensures .0)))
+returns-2 c =
+    let s = c .before .before .before .before .before .before .before .before .before .before .before .before .before .before .before .before .before .before .before .before in
+    let p = c .before .before .before .before .before .before .before .before .before .before .before .before .before .before .before .before .before .prepare .ensures in
+    let w = c .before .before .before .before .before .enum-told2 .given .1 in
+    let n = rw (c .before .before .before .before .before .before .before .before .before .before .before .before .before .before .n .given .1) at (p .0) in
+    reads-by-form (s .args .table .now) (s .args .line .now) (spaces (s .args .letters .now) (s .args .values .now) (s .args .numbers .now) (s .args .amounts .now)) (short (s .args .line .now) _ refl n (p .1)) (front-is (s .args .line .now) _ refl n (p .1))
+    (ap₂ left w (c .clear .ensures) ∙ (rw w at (c .before .before .before .before .before .before .before .read-text .ensures)))
+
+returns-3 : tie.Need-returns-3
+returns-3 c =
+    let s = c .before .before .before .before .before .before .before .before .before .before .before .before .before .before in
+    let p = c .before .before .before .before .before .before .before .before .before .before .before .prepare .ensures in
+    let n = rw (c .before .before .before .before .before .before .before .before .n .given .1) at (p .0) in
+    reads-by-form (s .args .table .now) (s .args .line .now) (spaces (s .args .letters .now) (s .args .values .now) (s .args .numbers .now) (s .args .amounts .now)) (short (s .args .line .now) _ refl n (p .1)) (front-is (s .args .line .now) _ refl n (p .1))
+    (not-wrong (c .before .read-text .result) (c .match2 .keys2) ∙ c .before .read-text .ensures)
 
 pub read-spec : {M : Type 1} → statement M
 read-spec =
@@ -43,9 +80,12 @@ read-spec =
     slice-aggregate-prepare
     prepare-requires
     enum-known-n
+    enum-told
+    returns
     array-share-prefix-text
     slice-aggregate-read-text
     read-text-requires
-    enum-told
-    returns
-    returns-2)
+    enum-told-2
+    clear-requires
+    returns-2
+    returns-3)

@@ -1,8 +1,9 @@
 use Rattle.rules.specs.Meaning.{Entry}
 use Rattle.grammar.specs.Working.{Took}
-use Rattle.reader.specs.Reading.{spaces, stored}
-use Rattle.reader.specs.Gather.{answered}
-use Rattle.reader.proofs.Beginning.{slash-on, label-within, line-items, line-wrong, gathers-items, gathers-nothing}
+use Rattle.grammar.proofs.Place.{Placed}
+use Rattle.reader.specs.Reading.{spaces}
+use Rattle.reader.specs.Gather.{leftBy}
+use Rattle.reader.proofs.Beginning.{slash-on, label-within, line-items, line-wrong}
 use mathlib.Core.Path.{ap, _∙_}
 use borrow.Author.Needs.{needs}
 use Rattle.reader.proofs.line.read_text.Statement.{statement}
@@ -29,10 +30,10 @@ enum-known-p-2 : tie.Need-enum-known-p-2
 enum-known-p-2 c = search needs
 
 returns : tie.Need-returns
-returns c = (c .gather .ensures .0 ∙ ap answered (line-items (c .before .before .before .before .before .before .before .before .before .before .before .args .table .now) (c .before .before .before .before .before .before .before .before .before .before .before .args .text .now) (c .before .before .before .before .before .before .before .before .before .slash-end .ensures) (rw (c .before .before .before .before .before .before .p .given .1) at (c .before .before .before .before .before .before .before .before .label-end .ensures))), c .gather .ensures .1 ∙ ap (λ (e : Took Entry). stored e (spaces (c .before .before .before .before .before .before .before .before .before .before .before .args .letters .now) (c .before .before .before .before .before .before .before .before .before .before .before .args .values .now) (c .before .before .before .before .before .before .before .before .before .before .before .args .numbers .now) (c .before .before .before .before .before .before .before .before .before .before .before .args .amounts .now))) (gathers-items (c .before .before .before .before .before .before .before .before .before .before .before .args .table .now) (c .before .before .before .before .before .before .before .before .before .before .before .args .text .now) (c .before .before .before .before .before .before .before .before .before .slash-end .ensures) (rw (c .before .before .before .before .before .before .p .given .1) at (c .before .before .before .before .before .before .before .before .label-end .ensures))))
+returns c = c .gather .ensures ∙ ap (λ (m : Placed (Took Entry)). leftBy m (spaces (c .before .before .before .before .before .before .before .before .before .before .before .args .letters .now) (c .before .before .before .before .before .before .before .before .before .before .before .args .values .now) (c .before .before .before .before .before .before .before .before .before .before .before .args .numbers .now) (c .before .before .before .before .before .before .before .before .before .before .before .args .amounts .now))) (line-items (c .before .before .before .before .before .before .before .before .before .before .before .args .table .now) (c .before .before .before .before .before .before .before .before .before .before .before .args .text .now) (c .before .before .before .before .before .before .before .before .before .slash-end .ensures) (rw (c .before .before .before .before .before .before .p .given .1) at (c .before .before .before .before .before .before .before .before .label-end .ensures)))
 
 returns-2 : tie.Need-returns-2
-returns-2 c = (ap answered (line-wrong (c .before .before .before .before .before .before .args .table .now) (c .before .before .before .before .before .before .args .text .now) (c .before .before .before .before .slash-end .ensures) (rw (c .before .p2 .given .1) at (c .before .before .before .label-end .ensures))), ap (λ (e : Took Entry). stored e (spaces (c .before .before .before .before .before .before .args .letters .now) (c .before .before .before .before .before .before .args .values .now) (c .before .before .before .before .before .before .args .numbers .now) (c .before .before .before .before .before .before .args .amounts .now))) (gathers-nothing (c .before .before .before .before .before .before .args .table .now) (c .before .before .before .before .before .before .args .text .now) (c .before .before .before .before .slash-end .ensures) (rw (c .before .p2 .given .1) at (c .before .before .before .label-end .ensures))))
+returns-2 c = ap (λ (m : Placed (Took Entry)). leftBy m (spaces (c .before .before .before .before .before .before .args .letters .now) (c .before .before .before .before .before .before .args .values .now) (c .before .before .before .before .before .before .args .numbers .now) (c .before .before .before .before .before .before .args .amounts .now))) (line-wrong (c .before .before .before .before .before .before .args .table .now) (c .before .before .before .before .before .before .args .text .now) (c .before .before .before .before .slash-end .ensures) (rw (c .before .p2 .given .1) at (c .before .before .before .label-end .ensures)))
 
 pub read-text-spec : {M : Type 1} → statement M
 read-text-spec =

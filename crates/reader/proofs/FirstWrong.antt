@@ -1,20 +1,50 @@
--- The place told for a wrong form is the first at which no right line can go on.
+-- The first place at which a line is wrong: there is no other, and the grammar's reader fails there.
 -- Assumes nothing.
-use mathlib.Core.Path.{_≡_, sym, ap, _∙_}
+use mathlib.Core.Path.{_≡_, refl, sym, ap, _∙_}
+use mathlib.Core.Bool.{Bool, true, false}
 use mathlib.Core.List.{List, [], _∷_, _++_, append-assoc}
-use Prim.Native.Nat.{ℕ, suc, _-_, _<_}
+use Prim.Native.Nat.{ℕ, suc, _-_, _≤_, _<_}
 use native.Mathlib.Omega.{arith}
-use lib.ListN.{length, take, length-append}
-use lib.Seq.{take-at}
+use borrow.Author.Tests.{ltb-true, ltb-false}
+use lib.Dec.{ltb}
+use lib.ListN.{length, take, drop, length-append, take-append-drop}
+use lib.Seq.{take-at, take-take}
 use Rattle.grammar.specs.Grammar.{Line, LineOk, write}
-use Rattle.grammar.specs.Derivation.{strip, Derives}
 use Rattle.grammar.proofs.Read.{Read, fail, got, readLine}
 use Rattle.grammar.proofs.LineBack.{line-back}
 use Rattle.grammar.proofs.Fuel.{shorter}
-use Rattle.reader.specs.Underived.{stuck, RightBeginning, FirstWrong}
+use Rattle.reader.specs.Underived.{RightBeginning, FirstWrong}
 use Rattle.reader.proofs.Viable.{Stops, goes, past, line-stops}
 use Rattle.reader.proofs.Local.{line-local}
-use Rattle.reader.proofs.Reading.{none-fails}
+
+-- ---- there is one such place
+
+module _ (s : List ℕ) where
+  -- a right line that begins with so many bytes begins with fewer of them
+  begins-before : (p q : ℕ) → p ≤ q → RightBeginning (take q s) → RightBeginning (take p s)
+  begins-before p q h b = record {
+    tree = b .tree;
+    ok = b .ok;
+    rest = drop p (take q s) ++ b .rest;
+    writes =
+        b .writes
+        ∙ ap (λ (y : List ℕ). y ++ b .rest) (sym (take-append-drop p (take q s)))
+        ∙ append-assoc (take p (take q s)) (drop p (take q s)) (b .rest)
+        ∙ ap (λ (y : List ℕ). y ++ (drop p (take q s) ++ b .rest)) (take-take p q s h);
+  }
+
+  not-before : (p q : ℕ) → FirstWrong s p → FirstWrong s q → ¬ (p < q)
+  not-before p q a b h = a .stops (omega (arith, b .within)) (begins-before (suc p) q (omega arith) (b .begins))
+
+  pub first-wrong-one : {p q : ℕ} → FirstWrong s p → FirstWrong s q → p ≡ q
+  first-wrong-one {p} {q} a b = go (ltb p q) (ltb q p) refl refl
+    where
+      go : (c d : Bool) → ltb p q ≡ c → ltb q p ≡ d → p ≡ q
+      go true d e f = absurd (not-before p q a b (ltb-true p q e))
+      go false true e f = absurd (not-before q p b a (ltb-true q p f))
+      go false false e f = omega (arith, ltb-false p q e, ltb-false q p f)
+
+-- ---- the grammar's reader fails there
 
 -- some right line begins with the bytes that were passed
 module _ (s x q : List ℕ) (e : s ≡ x ++ q) where
@@ -35,9 +65,9 @@ one-byte-more s x b q e =
     ap (take (suc (length s - length (b ∷ q)))) d
     ∙ take-at (x ++ (b ∷ [])) q (suc (length s - length (b ∷ q))) (let k = shorter s x (b ∷ q) e in let j = length-append x (b ∷ []) in omega arith)
 
-first-wrong : (s q : List ℕ) → readLine s ≡ fail q → {m : Read Line} → m ≡ fail q → Stops write LineOk s m → FirstWrong s (length s - length q)
-first-wrong s q f h goes = absurd (let z : _≡_ {A = ℕ} 0 1 = cc in omega arith)
-first-wrong s q f h (past {q = r} x e b) = same q f (let k : r ≡ q = cc in e ∙ ap (λ (y : List ℕ). x ++ y) k)
+fails-first : (s q : List ℕ) → readLine s ≡ fail q → {m : Read Line} → m ≡ fail q → Stops write LineOk s m → FirstWrong s (length s - length q)
+fails-first s q f h goes = absurd (let z : _≡_ {A = ℕ} 0 1 = cc in omega arith)
+fails-first s q f h (past {q = r} x e b) = same q f (let k : r ≡ q = cc in e ∙ ap (λ (y : List ℕ). x ++ y) k)
   where
     same : (q : List ℕ) → readLine s ≡ fail q → s ≡ x ++ q → FirstWrong s (length s - length q)
     same q f e = record {
@@ -50,7 +80,5 @@ first-wrong s q f h (past {q = r} x e b) = same q f (let k : r ≡ q = cc in e �
         further [] f e h r = omega arith
         further (c ∷ q) f e h r = no-further s x c q e f (rw (one-byte-more s x c q e) at r)
 
--- a line that has no derivation is wrong at that place first
-pub stuck-first : (l : List ℕ) → ((u : Line) → ¬ Derives u l) → FirstWrong (strip l) (stuck (strip l))
-unfolding stuck
-stuck-first l n = let k = none-fails [] l n in rw (k .1) (first-wrong (strip l) (k .0) (k .1) (k .1) (line-stops (strip l)))
+pub first-wrong : (s q : List ℕ) → readLine s ≡ fail q → FirstWrong s (length s - length q)
+first-wrong s q f = fails-first s q f f (line-stops s)
