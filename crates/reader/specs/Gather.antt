@@ -1,4 +1,4 @@
--- The items of a prepared line one after another, from what the grammar's reader by places says.
+-- The items of a prepared line one after another, from what the grammar's reader by places says. No public contract cites it.
 -- Assumes nothing.
 use Prim.Native.Nat.{ℕ}
 use Rattle.grammar.specs.Working.{Took}

@@ -1,4 +1,4 @@
--- How the code works values out in one pass: the arithmetic it has, and how it keeps the state of an expression.
+-- How the code works values out in one pass: the arithmetic it has, and how it keeps the state of an expression. No public contract cites it.
 -- Assumes nothing.
 use mathlib.Core.Path.{refl}
 use mathlib.Core.Bool.{cond}

@@ -1,4 +1,4 @@
--- What the functions that read answer, from what the grammar's reader by places says.
+-- What the functions that read answer, from what the grammar's reader by places says. No public contract cites it.
 -- Assumes nothing.
 use mathlib.Core.Path.{_≡_}
 use mathlib.Core.Bool.{Bool, false, cond}
