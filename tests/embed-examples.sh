@@ -10,4 +10,4 @@ sh tests/compare.sh examples 900
 for part in want got; do
     sh tests/second.sh examples --answers <$work/examples.$part >$work/examples.held || { cat $work/examples.held; exit 1; }
 done
-echo "examples: $(tail -n 1 $work/examples.held)"
+tail -n 1 $work/examples.held

@@ -161,7 +161,7 @@ class Report:
 def small_programs(seed, folder):
     """Programs to be given byte by byte and line by line: examples, the chain, and generated ones."""
     second(['examples', '--programs', folder / 'examples'])
-    second(['programs', seed, '12', folder / 'generated'])
+    second(['programs', seed, '8', folder / 'generated'])
     for path in sorted((folder / 'examples').glob('*.ngc')):
         data = path.read_bytes()
         assert second(['frames'], data) == path.with_suffix('.frames').read_bytes(), path.name
@@ -169,7 +169,7 @@ def small_programs(seed, folder):
     yield 'chain', chain(5000)
     yield 'chain and a refusal', chain(3000) + b'G59.4\n' + chain(300)
     for path in sorted((folder / 'generated').glob('*.ngc')):
-        yield f'generated {path.stem} of seed {seed}', path.read_bytes()[:4000]
+        yield f'generated {path.stem} of seed {seed}', path.read_bytes()[:3000]
 
 
 def main():

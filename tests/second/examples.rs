@@ -743,7 +743,7 @@ impl Count {
     }
 
     fn told(&self, out: &mut impl Write) -> io::Result<bool> {
-        writeln!(out, "{} passed, {} failed", self.passed, self.failed)?;
+        writeln!(out, "examples: {} passed, {} failed", self.passed, self.failed)?;
         Ok(self.failed == 0 && self.passed > 0)
     }
 }
