@@ -4,8 +4,10 @@
 Each case is a made-up crate `made` in a folder of its own: the right one with one thing changed. What is
 refused must be refused with the words that tell why.
 """
+import contextlib
+import importlib.util
+import io
 import pathlib
-import subprocess
 import sys
 import tempfile
 
@@ -179,16 +181,31 @@ def made(folder, changes):
         path.write_text(text)
 
 
+def loaded():
+    """tools/soles.py as a module."""
+    spec = importlib.util.spec_from_file_location('soles', ROOT / 'tools/soles.py')
+    soles = importlib.util.module_from_spec(spec)
+    spec.loader.exec_module(soles)
+    return soles
+
+
+def judged(soles, folder):
+    """The status and the words of tools/soles.py on a folder."""
+    sys.argv[1:] = [folder]
+    with contextlib.redirect_stdout(io.StringIO()) as said:
+        return soles.main(), said.getvalue()
+
+
 def main():
-    wrong = refused = 0
+    soles, wrong, refused = loaded(), 0, 0
     for name, words, changes in CASES:
         with tempfile.TemporaryDirectory() as folder:
             made(pathlib.Path(folder), changes)
-            run = subprocess.run([sys.executable, '-B', ROOT / 'tools/soles.py', folder], capture_output=True, text=True, check=False)
-        refused += run.returncode == 1
-        if run.stderr or run.returncode != (1 if words else 0) or words not in run.stdout:
+            status, said = judged(soles, folder)
+        refused += status == 1
+        if status != (1 if words else 0) or words not in said:
             wrong += 1
-            print(f'soles-refuses: {name}: status {run.returncode}: {run.stdout}{run.stderr}')
+            print(f'soles-refuses: {name}: status {status}: {said}')
     print(f'soles-refuses: {len(CASES)} made-up crates, {refused} refused, {wrong} wrong')
     return 1 if wrong else 0
 
