@@ -27,7 +27,7 @@ use Rattle.rules.proofs.Demands.{lacking}
 use Rattle.rules.specs.declared.Block.{Block}
 use Rattle.rules.specs.declared.Record.{Record}
 use Rattle.rules.specs.declared.Outcome.{Outcome}
-use Rattle.rules.specs.declared.Answer.the-variants.{Refused, Skipped}
+use Rattle.rules.specs.declared.Answer.the-variants.{Accepted, Refused, Skipped}
 use Rattle.reader.specs.Reading.{Spaces, stored, stopOf, outcome, Left, leaves, Reads}
 use Rattle.reader.specs.declared.line.Reading.{Reading}
 use Rattle.reader.specs.declared.line.Reading.the-variants.{Read}
@@ -87,7 +87,7 @@ stop-sound (took (settingIs n v) t) s k h = stop-sound t s k h
 finished-by : (n : ℕ) (e : Took Entry) (b : Block) (r : Record) (table out : List ℤ) → (n ≡ 100 → ⊥) → finished (doneBy n b r out) (settings e) table ≡ byNumber n e b r table out
 finished-by n e b r table out h = rw (ne-eqb n 100 h) (go (eqb n 0))
   where
-    go : (c : Bool) → finished (cond c (doneBy 0 b r out) (done (Refused n) r out)) (settings e) table ≡ cond c (byNumber 0 e b r table out) (leaving (Refused n) r table out)
+    go : (c : Bool) → finished (cond c (doneBy 0 b r out) (done (Refused n) r out)) (settings e) table ≡ cond c (byNumber 0 e b r table out) (leaving (cond c (Accepted 0) (Refused n)) r table out)
     go true = refl
     go false = refl
 

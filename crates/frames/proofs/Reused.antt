@@ -21,7 +21,7 @@ use Rattle.rules.specs.Commands.{padded, command, eight, only, numbers, moveCom
 use Rattle.rules.specs.Refusals.{first}
 use Rattle.rules.specs.Promise.{After, answer, answerTo, accepted, byNumber, leaving, over, numbers as numbersFor, taken, underived}
 use Rattle.rules.specs.Frames.{hex, complement, fields, fieldsUsed, kindOf, frame, framesIn, framesFrom, onward}
-use Rattle.rules.specs.declared.Answer.the-variants.{Refused, Skipped}
+use Rattle.rules.specs.declared.Answer.the-variants.{Accepted, Refused, Skipped}
 use Rattle.rules.specs.declared.Block.{Block}
 use Rattle.rules.specs.declared.Command.{Command}
 use Rattle.rules.specs.declared.Outcome.{Outcome}
@@ -135,8 +135,8 @@ module _ (e : Took Entry) (b : Block) (r : Record) (table out out′ : List ℤ)
   number-alike : (n : ℕ) → Alike (length out) (byNumber n e b r table out) (byNumber n e b r table out′)
   number-alike n = by (eqb n 0) (eqb n 100)
     where
-      by : (x y : Bool) → Alike (length out) (cond x (accepted e b r table out) (cond y (leaving Skipped r table out) (leaving (Refused n) r table out)))
-          (cond x (accepted e b r table out′) (cond y (leaving Skipped r table out′) (leaving (Refused n) r table out′)))
+      by : (x y : Bool) → Alike (length out) (cond x (accepted e b r table out) (leaving (cond x (Accepted 0) (cond y Skipped (Refused n))) r table out))
+          (cond x (accepted e b r table out′) (leaving (cond x (Accepted 0) (cond y Skipped (Refused n))) r table out′))
       by true y = accepted-alike
       by false true = skipped-alike
       by false false = refused-alike n

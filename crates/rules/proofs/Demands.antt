@@ -25,12 +25,15 @@ use Rattle.grammar.proofs.ByForm.{by-form-sole, by-pass}
 use Rattle.rules.specs.Meaning.{Entry, arithmetic, reading, words, meets}
 use Rattle.rules.specs.Block.{blockOf}
 use Rattle.rules.specs.Steps.{ready}
+use Rattle.rules.specs.Commands.{commands}
 use Rattle.rules.specs.Refusals.{Case, _when_, first, refusals}
-use Rattle.rules.specs.Promise.{After, Right, answer, answerTo, leaving, byNumber, numbers, underived, taken, numberOf, countOf, disorder, slashed}
+use Rattle.rules.specs.Promise.{After, Right, answer, answerTo, leaving, accepted, byNumber, numbers, underived, taken, answerOf, numberOf, countOf, disorder, slashed}
 use Rattle.rules.specs.declared.Worked.{Worked}
 use Rattle.rules.specs.declared.Block.{Block}
 use Rattle.rules.specs.declared.Record.{Record}
-use Rattle.rules.specs.declared.Answer.the-variants.{Refused, Skipped}
+use Rattle.rules.specs.declared.Answer.{Answer}
+use Rattle.rules.specs.declared.Answer.the-variants.{Accepted, Refused, Skipped}
+use Rattle.rules.proofs.Answers.{number-of, count-of}
 
 -- nothing is changed: "returns count 0 and leaves record, table and output unchanged"
 pub record Unchanged (r : Record) (table out : List ℤ) (a : After) : Type 0 where
@@ -41,26 +44,32 @@ pub record Unchanged (r : Record) (table out : List ℤ) (a : After) : Type 0 wh
 
 -- ---- what is left for a number
 module _ (n : ℕ) (e : Took Entry) (b : Block) (r : Record) (table out : List ℤ) where
-  abbrev by : Bool → Bool → After
-  by zero? skip? = cond zero? (byNumber 0 e b r table out) (cond skip? (leaving Skipped r table out) (leaving (Refused n) r table out))
+  -- is answered as that number is, with the count of the commands
+  pub answer-by : byNumber n e b r table out .outcome .answer ≡ answerOf n (length (commands b (ready b r)))
+  answer-by = of (eqb n 0) (accepted e b r table out) _ ∙ once (eqb n 0)
+    where
+      of : (x : Bool) (a c : After) → cond x a c .outcome .answer ≡ cond x (a .outcome .answer) (c .outcome .answer)
+      of true a c = refl
+      of false a c = refl
+
+      rest : Answer
+      rest = cond (eqb n 100) Skipped (Refused n)
+
+      once : (x : Bool) → cond x (Accepted (length (commands b (ready b r)))) (cond x (Accepted 0) rest) ≡ cond x (Accepted (length (commands b (ready b r)))) rest
+      once true = refl
+      once false = refl
 
   -- carries that number
   pub number-is : numberOf (byNumber n e b r table out .outcome .answer) ≡ n
-  number-is = go (eqb n 0) (eqb n 100) refl refl
-    where
-      go : (x y : Bool) → eqb n 0 ≡ x → eqb n 100 ≡ y → numberOf (by x y .outcome .answer) ≡ n
-      go true y p q = sym (eqb→eq n 0 (subst T (sym p) tt))
-      go false true p q = sym (eqb→eq n 100 (subst T (sym q) tt))
-      go false false p q = refl
+  number-is = ap numberOf answer-by ∙ number-of n (length (commands b (ready b r)))
 
   -- and is all as it was, unless the number is 0
   kept : (numberOf (byNumber n e b r table out .outcome .answer) ≡ 0 → ⊥) → Unchanged r table out (byNumber n e b r table out)
-  kept h = go (eqb n 0) (eqb n 100) h
+  kept h = go (eqb n 0) refl
     where
-      go : (x y : Bool) → (numberOf (by x y .outcome .answer) ≡ 0 → ⊥) → Unchanged r table out (by x y)
-      go true y h = absurd (h refl)
-      go false true h = record { noCommand = refl; sameRecord = refl; sameTable = refl; sameOut = refl }
-      go false false h = record { noCommand = refl; sameRecord = refl; sameTable = refl; sameOut = refl }
+      go : (x : Bool) → eqb n 0 ≡ x → Unchanged r table out (cond x (byNumber 0 e b r table out) (leaving (answerOf n 0) r table out))
+      go true p = absurd (h (number-is ∙ eqb→eq n 0 (subst T (sym p) tt)))
+      go false p = record { noCommand = count-of n 0 ∙ rw p; sameRecord = refl; sameTable = refl; sameOut = refl }
 
 -- ---- a number that no case of a list carries is not its first
 abbrev pub lacks : ℕ → List Case → Bool

@@ -2,8 +2,10 @@ pub mod Starred
 pub mod Page
 pub mod Cases
 pub mod Rows
+pub mod Answers
 pub mod Demands
 pub mod Told
+pub mod Carried
 pub mod Index
 pub mod InOrder
 pub mod InRange

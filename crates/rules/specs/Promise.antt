@@ -35,6 +35,10 @@ countOf (Accepted n) = n
 countOf (Refused n) = 0
 countOf Skipped = 0
 
+-- and back: the answer with `numberOf` n and, where it is an acceptance, `countOf` k; a refusal that carries acceptance's number or a skip's is never given
+abbrev pub answerOf : ℕ → ℕ → Answer
+answerOf n k = cond (eqb n (numberOf (Accepted k))) (Accepted k) (cond (eqb n (numberOf Skipped)) Skipped (Refused n))
+
 -- all that a call leaves: its result with the record, and what each lent space holds
 pub record After : Type 0 where
   pub outcome : Outcome
@@ -79,7 +83,7 @@ over zs out = zs ++ drop (length zs) out
 
 abbrev pub accepted : Took Entry → Block → Record → List ℤ → List ℤ → After
 accepted e b r table out =
-    leaving (Accepted (length (commands b (ready b r)))) (left b r) (apply (settings e) table) (over (written (commands b (ready b r))) out)
+    leaving (answerOf 0 (length (commands b (ready b r)))) (left b r) (apply (settings e) table) (over (written (commands b (ready b r))) out)
 
 -- "Numbers a refused line carries", each "given exactly when no earlier one applies"
 abbrev pub numbers : Bool → Took Entry → Block → List ℕ → Bool → Record → List ℤ → ℕ → List Case
@@ -97,9 +101,7 @@ numbers wrong e b line switch r table room =
 -- "Every refusal and skip returns count 0 and leaves record, table and output unchanged"
 abbrev pub byNumber : ℕ → Took Entry → Block → Record → List ℤ → List ℤ → After
 byNumber n e b r table out =
-    cond (eqb n 0) (accepted e b r table out)
-    (cond (eqb n 100) (leaving Skipped r table out)
-    (leaving (Refused n) r table out))
+    cond (eqb n 0) (accepted e b r table out) (leaving (answerOf n 0) r table out)
 
 abbrev pub judged : Bool → Took Entry → Block → List ℕ → Bool → Record → List ℤ → List ℤ → After
 judged wrong e b line switch r table out = byNumber (first (numbers wrong e b line switch r table (length out))) e b r table out
