@@ -41,8 +41,8 @@ use Rattle.rules.proofs.Told.{condition}
 use Rattle.rules.proofs.InRange.{AllInRange, words-in-range, word-in-range}
 
 -- ---- a record in order, field by field
-record Ordered (r : Record) : Type 0 where
-  position : T (inReach (r .position))
+pub record Ordered (r : Record) : Type 0 where
+  pub position : T (inReach (r .position))
   origins : T (inReach (r .origins))
   offset : T (inReach (r .offset))
   feed : T (upTo 253999999746 (r .feed .0))
@@ -85,7 +85,7 @@ tests r =
     inReach (r .origins) ∷ inReach (r .offset) ∷ upTo 253999999746 (r .feed .0) ∷ upTo 999999999 (r .speed .0) ∷ leb (r .tool) 99 ∷ leb (r .spindle) 2 ∷ leb (r .coolant) 3
     ∷ eqb (gGroup (r .motion)) 1 ∷ eqb (gGroup (r .plane)) 2 ∷ eqb (gGroup (r .distance)) 3 ∷ eqb (gGroup (r .units)) 6 ∷ eqb (gGroup (r .system)) 12 ∷ []
 
-ordered : (r : Record) → T (inOrder r) → Ordered r
+pub ordered : (r : Record) → T (inOrder r) → Ordered r
 unfolding inOrder
 ordered r t =
     let e = parts (inReach (r .position)) (tests r) t in
@@ -131,7 +131,7 @@ other-part true false t e = absurd t
 other-part false b t e = absurd (subst T (sym e) tt)
 
 -- ---- places in reach
-reach-at : (ls : List Length) (k : ℕ) → T (inReach ls) → T (within 1000000000 (at ls k .0))
+pub reach-at : (ls : List Length) (k : ℕ) → T (inReach ls) → T (within 1000000000 (at ls k .0))
 reach-at [] k t = tt
 reach-at (l ∷ ls) zero t = and-left (within 1000000000 (l .0)) (inReach ls) t
 reach-at (l ∷ ls) (suc k) t = reach-at ls k (and-right (within 1000000000 (l .0)) (inReach ls) t)
@@ -254,12 +254,13 @@ words-right b h =
     let toS = neither-left (f || s) p toP in
     record { f = neither-left f s toS; s = neither-right f s toS; t = neither-right (f || s || p) t toT }
 
-record InReach (b : Block) (m : Record) : Type 0 where
-  target : moves b ≡ true → T (inReach (target b m))
+pub record InReach (b : Block) (m : Record) : Type 0 where
+  pub target : moves b ≡ true → T (inReach (target b m))
+  pub centre : arcMove b m ≡ true → T (inReach (centre b m))
   origin : setsOrigin b ≡ true → T (inReach (originOf m (originSystem b)))
   offset : setsOffset b ≡ true → T (inReach (m .offset))
 
-in-reach : (b : Block) (m : Record) → T (not (tooFar b m)) → InReach b m
+pub in-reach : (b : Block) (m : Record) → T (not (tooFar b m)) → InReach b m
 unfolding tooFar
 in-reach b m h =
     let t = moves b && not (inReach (target b m)) in
@@ -269,6 +270,7 @@ in-reach b m h =
     let toO = neither-left (t || c || o) f h in
     record {
       target = other-part (moves b) (inReach (target b m)) (neither-left t c (neither-left (t || c) o toO));
+      centre = other-part (arcMove b m) (inReach (centre b m)) (neither-right t c (neither-left (t || c) o toO));
       origin = other-part (setsOrigin b) (inReach (originOf m (originSystem b))) (neither-right (t || c) o toO);
       offset = other-part (setsOffset b) (inReach (m .offset)) (neither-right (t || c || o) f h);
     }
