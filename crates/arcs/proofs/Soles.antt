@@ -5,7 +5,6 @@ use Rattle.laws.proofs.Sole.{Sole, alike}
 use Rattle.arcs.proofs.starts_at_centre as startsAtCentre
 use Rattle.arcs.proofs.radii_unequal as radiiUnequal
 use Rattle.arcs.proofs.slack as slack
-use Rattle.arcs.proofs.root as root
 
 pub startsAtCentre-sole : Sole startsAtCentre.ended (λ M. startsAtCentre.clauses)
 startsAtCentre-sole = record { says = _; is = λ M 𝓤 H A mem run κs a ghost r e. refl; one = λ κs a r r′ ws ws′ p q. (alike p q, refl) }
@@ -15,6 +14,3 @@ radiiUnequal-sole = record { says = _; is = λ M 𝓤 H A mem run κs a ghost r 
 
 pub slack-sole : Sole slack.ended (λ M. slack.clauses)
 slack-sole = record { says = _; is = λ M 𝓤 H A mem run κs a ghost r e. refl; one = λ κs a r r′ ws ws′ p q. (alike p q, refl) }
-
-pub root-sole : Sole root.ended (λ M. root.clauses)
-root-sole = record { says = _; is = λ M 𝓤 H A mem run κs a ghost r e. refl; one = λ κs a r r′ ws ws′ p q. (alike p q, refl) }

@@ -42,7 +42,7 @@ pub fn slack(units: u16) -> u64
 }
 
 // The whole square root, rounded down: its 32 bits, the highest first.
-pub fn root(n: u64) -> u64
+fn root(n: u64) -> u64
     ensures { λ r. ⌜ r ≡ root n ⌝ }
 {
     let mut r: u64 = 0;

@@ -11,7 +11,6 @@ use Rattle.value.proofs.tenth as tenth
 use Rattle.value.proofs.number as number
 use Rattle.value.proofs.convert as convert
 use Rattle.value.proofs.is_below_zero as belowZero
-use Rattle.value.proofs.is_zero as isZero
 use Rattle.value.proofs.in_range as inRange
 use Rattle.value.proofs.extent as extent
 use Rattle.value.proofs.is_zero_length as isZeroLength
@@ -45,9 +44,6 @@ convert-sole = record { says = _; is = λ M 𝓤 H A m n κs a g r e. refl; one 
 
 pub is-below-zero-sole : Sole belowZero.ended (λ M. belowZero.clauses)
 is-below-zero-sole = record { says = _; is = λ M 𝓤 H A m n κs a g r e. refl; one = λ κs a r r′ ws ws′ p q. (alike p q, refl) }
-
-pub is-zero-sole : Sole isZero.ended (λ M. isZero.clauses)
-is-zero-sole = record { says = _; is = λ M 𝓤 H A m n κs a g r e. refl; one = λ κs a r r′ ws ws′ p q. (alike p q, refl) }
 
 pub in-range-sole : Sole inRange.ended (λ M. inRange.clauses)
 in-range-sole = record { says = _; is = λ M 𝓤 H A m n κs a g r e. refl; one = λ κs a r r′ ws ws′ p q. (alike p q, refl) }

@@ -127,12 +127,6 @@ pub fn is_below_zero(v: Value) -> bool
     v.0 < 0
 }
 
-pub fn is_zero(v: Value) -> bool
-    ensures { λ r. ⌜ r ≡ eqb (natAbs (v .0)) 0 ⌝ }
-{
-    size(v) == 0
-}
-
 pub fn in_range(v: Value) -> bool
     ensures { λ r. ⌜ r ≡ inRange (v .0) ⌝ }
 {
