@@ -109,6 +109,10 @@ not-disorder true true h = refl
 not-disorder true false h = sym h
 not-disorder false y h = absurd (subst T h tt)
 
+-- what a test has shown of what it is the test of
+pub by-test : {x y b : Bool} → x ≡ y → x ≡ b → y ≡ b
+by-test e t = sym e ∙ t
+
 -- ---- the numbers before the form is read
 module _ (line : List ℕ) (switch : Bool) (r : Record) (table out : List ℤ) where
   by-early : {x : After} → ((e : Option (Took Entry)) → answerTo e line switch r table out ≡ x) → Right line switch r table out x

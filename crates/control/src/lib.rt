@@ -207,7 +207,7 @@ pub fn work(
     table: &mut [i64],
     out: &mut [i64],
 ) -> Outcome
-    ensures { λ r. ⌜ Right (now (line .entry)) switch rec (now (table .entry)) (now (out .entry)) (after r (now (table .exit)) (now (out .exit))) ⌝ }
+    ensures { λ left. ⌜ Right (now (line .entry)) switch rec (now (table .entry)) (now (out .entry)) (after left (now (table .exit)) (now (out .exit))) ⌝ }
 {
     let answer = step(line, switch, &mut rec, table, out);
     Outcome { answer, rec }

@@ -1,6 +1,4 @@
-use native.Mathlib.Omega.{arith}
-use mathlib.Core.Path.{sym, _∙_}
-use Rattle.control.proofs.Keeping.{kept-1, kept-2, kept-skipped}
+use Rattle.control.proofs.Keeping.{by-test, kept-1, kept-2, kept-skipped}
 use borrow.Author.Needs.{needs}
 use Rattle.control.proofs.interpret.Statement.{statement}
 use Rattle.control.proofs.interpret.Tie as tie
@@ -21,7 +19,7 @@ same-length : tie.Need-same-length
 same-length c = search needs
 
 returns : tie.Need-returns
-returns c = kept-1 (c .before .before .before .before .before .args .line .now) (c .before .before .before .before .before .args .switch) (c .before .before .before .before .before .args .rec) (c .before .before .before .before .before .args .table .now) (c .before .before .before .before .before .args .out .now) (sym (c .before .before .out-of-order .ensures) ∙ c .before .if1 .taken) (c .refused .ensures)
+returns c = search (needs, kept-1, by-test)
 
 refused-requires-2 : tie.Need-refused-requires-2
 refused-requires-2 c κs = search needs
@@ -30,7 +28,7 @@ same-length-2 : tie.Need-same-length-2
 same-length-2 c = search needs
 
 returns-2 : tie.Need-returns-2
-returns-2 c = kept-2 (c .before .before .before .before .before .before .args .line .now) (c .before .before .before .before .before .before .args .switch) (c .before .before .before .before .before .before .args .rec) (c .before .before .before .before .before .before .args .table .now) (c .before .before .before .before .before .before .args .out .now) (sym (c .before .before .before .out-of-order .ensures) ∙ c .before .before .if1 .left) (c .before .if2 .taken) (c .refused2 .ensures)
+returns-2 c = search (needs, kept-2, by-test)
 
 skips-requires : tie.Need-skips-requires
 skips-requires c κs = search needs
@@ -39,10 +37,10 @@ same-length-3 : tie.Need-same-length-3
 same-length-3 c = search needs
 
 returns-3 : tie.Need-returns-3
-returns-3 c = kept-skipped (c .before .before .before .before .before .before .before .args .line .now) (c .before .before .before .before .before .before .before .args .switch) (c .before .before .before .before .before .before .before .args .rec) (c .before .before .before .before .before .before .before .args .table .now) (c .before .before .before .before .before .before .before .args .out .now) (sym (c .before .before .before .before .out-of-order .ensures) ∙ c .before .before .before .if1 .left) (omega arith) (sym (c .before .skips .ensures) ∙ c .if3 .taken)
+returns-3 c = search (needs, kept-skipped, by-test)
 
 read-and-work-requires : tie.Need-read-and-work-requires
-read-and-work-requires c κs = (sym (c .before .before .before .before .before .before .out-of-order .ensures) ∙ c .before .before .before .before .before .if1 .left, omega arith, sym (c .before .before .before .skips .ensures) ∙ c .before .before .if3 .left)
+read-and-work-requires c κs = search (needs, by-test)
 
 same-length-4 : tie.Need-same-length-4
 same-length-4 c = search needs
