@@ -61,7 +61,7 @@ slice-front (suc at) k (b ∷ s) =
     rw e (slice-front at k s)
 
 -- what remains without a carriage return is the front of the line
-return-front : (l : List ℕ) → withoutReturn l ≡ take (length (withoutReturn l)) l
+pub return-front : (l : List ℕ) → withoutReturn l ≡ take (length (withoutReturn l)) l
 return-front [] = refl
 return-front (b ∷ []) = by (eqb b (byte "\r"))
   where
@@ -70,7 +70,7 @@ return-front (b ∷ []) = by (eqb b (byte "\r"))
     by false = refl
 return-front (b ∷ c ∷ l) = ap (λ (t : List ℕ). b ∷ t) (return-front (c ∷ l))
 
-return-short : (l : List ℕ) → length (withoutReturn l) ≤ length l
+pub return-short : (l : List ℕ) → length (withoutReturn l) ≤ length l
 return-short [] = omega arith
 return-short (b ∷ []) = by (eqb b (byte "\r"))
   where

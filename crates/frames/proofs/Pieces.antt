@@ -49,14 +49,14 @@ cut-through l (b ∷ s) more h = cut-byte l b (s ++ more) ∙ by (eqb b (byte "\
     by false g later = later (omega arith) ∙ ap (λ (x : List ℕ). cut x more) (append-assoc l (b ∷ []) s)
 
 -- lines of which the first has more than n bytes
-record Long (n : ℕ) (ls : List (List ℕ)) : Type 0 where
-  first : List ℕ
-  others : List (List ℕ)
-  are : ls ≡ first ∷ others
-  longer : n < length first
+pub record Long (n : ℕ) (ls : List (List ℕ)) : Type 0 where
+  pub first : List ℕ
+  pub others : List (List ℕ)
+  pub are : ls ≡ first ∷ others
+  pub longer : n < length first
 
 -- a line stays long, whatever comes behind it: its carriage return is one byte
-stays-long : (n : ℕ) (l more : List ℕ) → suc (suc n) ≤ length l → Long n (cut l more)
+pub stays-long : (n : ℕ) (l more : List ℕ) → suc (suc n) ≤ length l → Long n (cut l more)
 stays-long n [] [] h = absurd (omega arith)
 stays-long n (c ∷ l) [] h = record { first = c ∷ l; others = []; are = refl; longer = omega arith }
 stays-long n l (b ∷ more) h =
@@ -71,7 +71,7 @@ long-number : (wrong : Bool) (e : Took Entry) (b : Block) (l : List ℕ) (switch
     → first (numbers wrong e b l switch r table room) ≡ cond (disorder r table) 1 2
 long-number wrong e b l switch r table room h = rw (lt-ltb 256 (length l) h)
 
-long-refused : (f : Option (Took Entry)) (l : List ℕ) (switch : Bool) (r : Record) (table out : List ℤ) → 256 < length l
+pub long-refused : (f : Option (Took Entry)) (l : List ℕ) (switch : Bool) (r : Record) (table out : List ℤ) → 256 < length l
     → answerTo f l switch r table out ≡ leaving (Refused (cond (disorder r table) 1 2)) r table out
 unfolding answerTo
 long-refused f l switch r table out h =
@@ -83,7 +83,7 @@ long-refused f l switch r table out h =
     by false e b = refl
 
 module _ (tree : List ℕ → Option Line) where
-  long-written : (l : List ℕ) (ls : List (List ℕ)) (r : Record) (table : List ℤ) → 256 < length l
+  pub long-written : (l : List ℕ) (ls : List (List ℕ)) (r : Record) (table : List ℤ) → 256 < length l
       → framesFrom tree (l ∷ ls) r table ≡ refusalFrame (cond (disorder r table) 1 2)
   long-written l ls r table h =
       ap (λ (a : After). onward (a .outcome .answer) (a .out) (framesFrom tree ls (a .outcome .rec) (a .table))) (long-refused (reading table (tree l)) l false r table (replicate 8000 (pos 0)) h)

@@ -19,7 +19,7 @@ use Rattle.rules.specs.Steps.{ready, motionOf, target}
 use Rattle.rules.specs.Arcs.{arcMove, centre}
 use Rattle.rules.specs.Commands.{padded, command, eight, only, numbers, moveCommand, commands, written}
 use Rattle.rules.specs.Refusals.{first}
-use Rattle.rules.specs.Promise.{After, answer, answerTo, accepted, byNumber, leaving, over, numbers as numbersFor, taken, underived}
+use Rattle.rules.specs.Promise.{After, answer, answerTo, accepted, byNumber, countOf, leaving, over, numbers as numbersFor, taken, underived}
 use Rattle.rules.specs.Frames.{hex, complement, fields, fieldsUsed, kindOf, frame, framesIn, framesFrom, onward}
 use Rattle.rules.specs.declared.Answer.the-variants.{Accepted, Refused, Skipped}
 use Rattle.rules.specs.declared.Block.{Block}
@@ -76,7 +76,7 @@ line-few b r =
     (one (b .stop .given) _ refl)
 
 -- ---- frames are read from the numbers that were written
-at-most-seven : (k : ℕ) → fieldsUsed k ≤ 7
+pub at-most-seven : (k : ℕ) → fieldsUsed k ≤ 7
 unfolding fieldsUsed
 at-most-seven k = by (eqb k 4) (among k (8 ∷ 9 ∷ [])) (eqb k 10)
   where
@@ -104,12 +104,13 @@ frames-front (suc n) zs ys h =
     ∙ ap (λ (t : List ℕ). frame zs ++ t) (frames-front n (drop 8 zs) ys (omega (arith, length-drop 8 zs)))
 
 -- ---- two spaces of one length serve alike
--- what is left in two spaces: the same, but for the numbers past the commands, which are not seen
-record Alike (room : ℕ) (a b : After) : Type 0 where
-  outcome : a .outcome ≡ b .outcome
-  table : a .table ≡ b .table
-  frames : (rest : List ℕ) → onward (a .outcome .answer) (a .out) rest ≡ onward (b .outcome .answer) (b .out) rest
-  roomy : length (a .out) ≡ room
+-- what is left in two spaces: the same, but for the numbers past the commands, which are not seen; and the commands are few
+pub record Alike (room : ℕ) (a b : After) : Type 0 where
+  pub outcome : a .outcome ≡ b .outcome
+  pub table : a .table ≡ b .table
+  pub frames : (rest : List ℕ) → onward (a .outcome .answer) (a .out) rest ≡ onward (b .outcome .answer) (b .out) rest
+  pub roomy : length (a .out) ≡ room
+  pub few : countOf (a .outcome .answer) ≤ 9
 
 module _ (e : Took Entry) (b : Block) (r : Record) (table out out′ : List ℤ) (roomy : 72 ≤ length out) (same : length out′ ≡ length out) where
   accepted-alike : Alike (length out) (accepted e b r table out) (accepted e b r table out′)
@@ -124,13 +125,14 @@ module _ (e : Took Entry) (b : Block) (r : Record) (table out out′ : List ℤ)
         table = refl;
         frames = λ rest. ap (λ (t : List ℕ). t ++ rest) (front out ∙ sym (front out′));
         roomy = omega (arith, length-append zs (drop (length zs) out), length-drop (length zs) out, few .eights, few .few);
+        few = few .few;
       }
 
   refused-alike : (n : ℕ) → Alike (length out) (leaving (Refused n) r table out) (leaving (Refused n) r table out′)
-  refused-alike n = record { outcome = refl; table = refl; frames = λ rest. refl; roomy = refl }
+  refused-alike n = record { outcome = refl; table = refl; frames = λ rest. refl; roomy = refl; few = omega arith }
 
   skipped-alike : Alike (length out) (leaving Skipped r table out) (leaving Skipped r table out′)
-  skipped-alike = record { outcome = refl; table = refl; frames = λ rest. refl; roomy = refl }
+  skipped-alike = record { outcome = refl; table = refl; frames = λ rest. refl; roomy = refl; few = omega arith }
 
   number-alike : (n : ℕ) → Alike (length out) (byNumber n e b r table out) (byNumber n e b r table out′)
   number-alike n = by (eqb n 0) (eqb n 100)
@@ -141,7 +143,7 @@ module _ (e : Took Entry) (b : Block) (r : Record) (table out out′ : List ℤ)
       by false true = skipped-alike
       by false false = refused-alike n
 
-answer-alike : (f : Option (Took Entry)) (l : List ℕ) (switch : Bool) (r : Record) (table out out′ : List ℤ) → 72 ≤ length out → length out′ ≡ length out
+pub answer-alike : (f : Option (Took Entry)) (l : List ℕ) (switch : Bool) (r : Record) (table out out′ : List ℤ) → 72 ≤ length out → length out′ ≡ length out
     → Alike (length out) (answerTo f l switch r table out) (answerTo f l switch r table out′)
 unfolding answerTo
 answer-alike f l switch r table out out′ roomy same =
