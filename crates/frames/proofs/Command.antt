@@ -12,7 +12,7 @@ use lib.ListN.{length, length-append, length-drop, take, drop, getD}
 use lib.Seq.{sets, sets-eq, drop-drop, getD-drop, length-take-le}
 use Rattle.grammar.specs.Bytes.{bytes}
 use Rattle.rules.specs.Frames.{hex, complement, fields, fieldsUsed, kindOf, frame, framesIn, refusalFrame}
-use Rattle.frames.specs.Text.{frameAt, framesAt, answerFrames, room, placed, laid}
+use Rattle.frames.specs.Text.{framesAt, answerFrames, room, placed, laid}
 use Rattle.rules.specs.declared.Answer.the-variants.{Accepted, Refused, Skipped}
 use Rattle.frames.specs.declared.Put.{Put}
 use Rattle.frames.specs.declared.Put.the-variants.{At, Full}
@@ -80,16 +80,6 @@ frames-grow k many zs h =
     omega (arith, whole, length-append (framesIn k zs) rest)
 
 -- ---- what is put into a text
--- the frame of a command that is all there, or of none
-module _ (out : List ℤ) (base : ℕ) where
-  pub command-there : base + 8 ≤ length out → frameAt out base ≡ some (frame (drop base out))
-  unfolding frameAt
-  command-there h = rw (le-leb (base + 8) (length out) h)
-
-  pub command-short : length out < base + 8 → frameAt out base ≡ none
-  unfolding frameAt
-  command-short h = rw (lt-leb (base + 8) (length out) h)
-
 module _ (many : ℕ) (out : List ℤ) where
   pub commands-there : 8 * many ≤ length out → framesAt many out ≡ some (framesIn many out)
   unfolding framesAt

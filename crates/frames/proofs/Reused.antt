@@ -8,23 +8,21 @@ use Prim.Native.Nat.{ℕ, zero, suc, _+_, _*_, _/_, _≤_}
 use native.Mathlib.Omega.{arith}
 use lib.Dec.{eqb}
 use lib.IntN.{ℤ, pos}
-use lib.ListN.{length, take, drop, replicate, length-append, length-drop, length-replicate, List·getD-append}
+use lib.ListN.{length, take, drop, length-append, length-drop, List·getD-append}
 use lib.Seq.{take-append-le, drop-append-le}
 use Rattle.grammar.specs.Bytes.{bytes, among}
-use Rattle.grammar.specs.Grammar.{Line}
 use Rattle.grammar.specs.Working.{Took}
-use Rattle.rules.specs.Meaning.{Entry, reading, words}
+use Rattle.rules.specs.Meaning.{Entry, words}
 use Rattle.rules.specs.Block.{blockOf, dwells, moves}
 use Rattle.rules.specs.Steps.{ready, motionOf, target}
 use Rattle.rules.specs.Arcs.{arcMove, centre}
 use Rattle.rules.specs.Commands.{padded, command, eight, only, numbers, moveCommand, commands, written}
 use Rattle.rules.specs.Refusals.{first}
-use Rattle.rules.specs.Promise.{After, answer, answerTo, accepted, byNumber, countOf, leaving, over, numbers as numbersFor, taken, underived}
-use Rattle.rules.specs.Frames.{hex, complement, fields, fieldsUsed, kindOf, frame, framesIn, framesFrom, onward}
+use Rattle.rules.specs.Promise.{After, answerTo, accepted, byNumber, countOf, leaving, over, numbers as numbersFor, taken, underived}
+use Rattle.rules.specs.Frames.{hex, complement, fields, fieldsUsed, kindOf, frame, framesIn, onward}
 use Rattle.rules.specs.declared.Answer.the-variants.{Accepted, Refused, Skipped}
 use Rattle.rules.specs.declared.Block.{Block}
 use Rattle.rules.specs.declared.Command.{Command}
-use Rattle.rules.specs.declared.Outcome.{Outcome}
 use Rattle.rules.specs.declared.Record.{Record}
 
 -- ---- a line's commands are eight numbers each, and at most nine
@@ -151,24 +149,3 @@ answer-alike f l switch r table out out′ roomy same =
     let b = blockOf (words e) in
     subst (λ (k : ℕ). Alike (length out) (byNumber (first (numbersFor (underived f) e b l switch r table (length out))) e b r table out) (byNumber (first (numbersFor (underived f) e b l switch r table k)) e b r table out′)) (sym same)
     (number-alike e b r table out out′ roomy same (first (numbersFor (underived f) e b l switch r table (length out))))
-
--- the frames of lines, each of which finds in the output space what the one before has left there
-abbrev pub framesOver : (List ℕ → Option Line) → List (List ℕ) → Record → List ℤ → List ℤ → List ℕ
-framesOver tree [] r table out = []
-framesOver tree (l ∷ ls) r table out =
-    let a = answer (tree l) l false r table out in
-    onward (a .outcome .answer) (a .out) (framesOver tree ls (a .outcome .rec) (a .table) (a .out))
-
--- are the frames of lines that find the space anew
-pub space-reused : (tree : List ℕ → Option Line) (ls : List (List ℕ)) (r : Record) (table out : List ℤ) → length out ≡ 8000
-    → framesOver tree ls r table out ≡ framesFrom tree ls r table
-space-reused tree [] r table out h = refl
-space-reused tree (l ∷ ls) r table out h =
-    let anew = replicate 8000 (pos 0) in
-    let a = answer (tree l) l false r table out in
-    let b = answer (tree l) l false r table anew in
-    let same = answer-alike (reading table (tree l)) l false r table out anew (omega arith) (length-replicate 8000 (pos 0) ∙ sym h) in
-    ap (onward (a .outcome .answer) (a .out)) (space-reused tree ls (a .outcome .rec) (a .table) (a .out) (same .roomy ∙ h))
-    ∙ same .frames (framesFrom tree ls (a .outcome .rec) (a .table))
-    ∙ ap (λ (o : Outcome). onward (b .outcome .answer) (b .out) (framesFrom tree ls (o .rec) (a .table))) (same .outcome)
-    ∙ ap (λ (t : List ℤ). onward (b .outcome .answer) (b .out) (framesFrom tree ls (b .outcome .rec) t)) (same .table)

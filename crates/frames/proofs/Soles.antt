@@ -1,20 +1,8 @@
--- Each public function's contract allows one result.
+-- The public function's contract allows one result.
 -- Assumes nothing.
 use mathlib.Core.Path.{refl}
 use Rattle.laws.proofs.Sole.{Sole, alike}
-use Rattle.frames.proofs.frame as frame
-use Rattle.frames.proofs.refusal as refusal
 use Rattle.frames.proofs.answer_frames as answer_frames
-use Rattle.frames.proofs.next_line as next_line
-
-pub frame-sole : Sole frame.ended (λ M. frame.clauses)
-frame-sole = record { says = _; is = λ M 𝓤 H A m n κs a g r e. refl; one = λ κs a r r′ ws ws′ p q. (alike (p .0) (q .0), λ i. (tt, (tt, (alike (p .1) (q .1) i, (tt, tt))))) }
-
-pub refusal-sole : Sole refusal.ended (λ M. refusal.clauses)
-refusal-sole = record { says = _; is = λ M 𝓤 H A m n κs a g r e. refl; one = λ κs a r r′ ws ws′ p q. (alike (p .0) (q .0), λ i. (tt, (alike (p .1) (q .1) i, (tt, tt)))) }
 
 pub answer_frames-sole : Sole answer_frames.ended (λ M. answer_frames.clauses)
 answer_frames-sole = record { says = _; is = λ M 𝓤 H A m n κs a g r e. refl; one = λ κs a r r′ ws ws′ p q. (alike (p .0) (q .0), λ i. (tt, (tt, (alike (p .1) (q .1) i, (tt, tt))))) }
-
-pub next_line-sole : Sole next_line.ended (λ M. next_line.clauses)
-next_line-sole = record { says = _; is = λ M 𝓤 H A m n κs a g r e. refl; one = λ κs a r r′ ws ws′ p q. (alike p q, refl) }

@@ -1,4 +1,4 @@
--- A frame put into a text, from a place on.
+-- Frames put into a text, from a place on.
 -- Assumes nothing.
 use mathlib.Core.Bool.{Bool, cond}
 use mathlib.Core.List.{List, [], _++_}
@@ -8,14 +8,10 @@ use lib.Dec.{leb}
 use lib.ListN.{length, take, drop}
 use lib.IntN.{ℤ}
 use Rattle.rules.specs.Promise.{countOf}
-use Rattle.rules.specs.Frames.{frame, framesIn, onward}
+use Rattle.rules.specs.Frames.{framesIn, onward}
 use Rattle.rules.specs.declared.Answer.{Answer}
 use Rattle.frames.specs.declared.Put.{Put}
 use Rattle.frames.specs.declared.Put.the-variants.{At, Full}
-
--- the frame of the command at a place of the numbers written, where its eight numbers are all there
-unfoldable pub frameAt : List ℤ → ℕ → Option (List ℕ)
-frameAt out base = cond (leb (base + 8) (length out)) (some (frame (drop base out))) none
 
 -- the frames of the first commands of the numbers written, where they are all there
 unfoldable pub framesAt : ℕ → List ℤ → Option (List ℕ)

@@ -1,4 +1,4 @@
-// The text of frames, and the lines of a text (document 01, "Frames out").
+// The text of frames (document 01, "Frames out").
 ghost use mathlib.Core.Path.{_≡_};
 ghost use Prim.Native.Nat.{_+_, _-_, _*_, _≤_, _<_};
 ghost use mathlib.Core.List.{_++_};
@@ -7,22 +7,14 @@ ghost use lib.ListN.{length, take, drop};
 ghost use lib.Seq.{sets};
 ghost use Rattle.grammar.specs.Bytes.{bytes};
 ghost use Rattle.rules.specs.Frames.{hexDigit, hex, complement, fieldsUsed, fields, frame as frameText, framesIn, refusalFrame};
-ghost use Rattle.frames.specs.Text.{frameAt, framesAt, answerFrames, placed, laid};
-ghost use Rattle.frames.specs.Places.{feedFrom, endOf, nextFrom};
+ghost use Rattle.frames.specs.Text.{framesAt, answerFrames, placed, laid};
 use rules::Answer;
 
-// Where the text goes on after a frame; or that nothing was put, since the command is not all there
-// or the text has no room for the frame.
+// Where the text goes on after what is put; or that nothing was put, since the commands are not all
+// there or the text has no room for their frames.
 pub enum Put {
     At(usize),
     Full,
-}
-
-// What stands in a text from a place on: a line, with the place of its end and the place of the next
-// line; or a part of a line, which no line feed ends yet.
-pub enum Next {
-    Line { end: usize, next: usize },
-    Part,
 }
 
 // How many places there are from a place on: none, where it lies past the end.
@@ -124,20 +116,6 @@ fn put_frame(out: &[i64], base: usize, text: &mut [u8], at: usize) -> usize
     at + 3 + 10 * many
 }
 
-// Puts the frame of the command whose eight numbers start at base.
-pub fn frame(out: &[i64], base: usize, text: &mut [u8], at: usize) -> Put
-    ensures { λ r. ⌜ (r ≡ placed (frameAt (now (out .entry)) base) (now (text .entry)) at) × (now (text .exit) ≡ laid (frameAt (now (out .entry)) base) (now (text .entry)) at) ⌝ }
-{
-    if places_from(out.len(), base) < 8 {
-        return Put::Full;
-    }
-    let size = frame_size(out, base);
-    if places_from(text.len(), at) < size {
-        return Put::Full;
-    }
-    Put::At(put_frame(out, base, text, at))
-}
-
 // How long the frames of the first commands are.
 fn frames_size(out: &[i64], many: usize) -> usize
     requires { ⌜ 8 * many ≤ length (now out) ⌝ }
@@ -191,7 +169,7 @@ fn put_refusal(number: u8, text: &mut [u8], at: usize)
 }
 
 // Puts the frame of a refusal.
-pub fn refusal(number: u8, text: &mut [u8], at: usize) -> Put
+fn refusal(number: u8, text: &mut [u8], at: usize) -> Put
     ensures { λ r. ⌜ (r ≡ placed (some (refusalFrame number)) (now (text .entry)) at) × (now (text .exit) ≡ laid (some (refusalFrame number)) (now (text .entry)) at) ⌝ }
 {
     if places_from(text.len(), at) < 13 {
@@ -209,51 +187,5 @@ pub fn answer_frames(answer: Answer, out: &[i64], text: &mut [u8], at: usize) ->
         Answer::Accepted(many) => accepted(many as usize, out, text, at),
         Answer::Refused(number) => refusal(number, text, at),
         Answer::Skipped => accepted(0, out, text, at),
-    }
-}
-
-// The place of the first line feed from a place on, or the end of the text where there is none.
-fn feed_from(s: &[u8], at: usize) -> usize
-    requires { ⌜ at ≤ length (now s) ⌝ }
-    ensures { λ r. ⌜ (r ≡ feedFrom (now (s .entry)) at) × (r ≤ length (now (s .entry))) ⌝ }
-{
-    let mut i = at;
-    while i < s.len() {
-        if s[i] == b'\n' {
-            return i;
-        }
-        i += 1;
-    }
-    i
-}
-
-// The end of the line from a place to a line feed: one carriage return before it is dropped.
-fn end_of(s: &[u8], at: usize, feed: usize) -> usize
-    requires { ⌜ (at ≤ feed) × (feed ≤ length (now s)) ⌝ }
-    ensures { λ r. ⌜ r ≡ endOf (now (s .entry)) at feed ⌝ }
-{
-    if at < feed {
-        if s[feed - 1] == b'\r' {
-            return feed - 1;
-        }
-    }
-    feed
-}
-
-// The line of s from a place on.
-pub fn next_line(s: &[u8], at: usize) -> Next
-    ensures { λ r. ⌜ r ≡ nextFrom (now (s .entry)) at ⌝ }
-{
-    if s.len() < at {
-        return Next::Part;
-    }
-    let feed = feed_from(s, at);
-    if feed == s.len() {
-        return Next::Part;
-    }
-    let end = end_of(s, at, feed);
-    Next::Line {
-        end,
-        next: feed + 1,
     }
 }
