@@ -12,10 +12,10 @@ use rules::Length;
 pub fn starts_at_centre(start: [Length; 2]) -> bool
     ensures { λ r. ⌜ r ≡ eqb (summed start) 0 ⌝ }
 {
-    if !value::is_zero_length(start[0]) {
+    if !lengths::is_zero_length(start[0]) {
         return false;
     }
-    value::is_zero_length(start[1])
+    lengths::is_zero_length(start[1])
 }
 
 // Whether the radii at an arc's start and end differ by more than the slack.
@@ -77,14 +77,14 @@ fn measurable(way: [Length; 2]) -> bool
 fn in_span(l: Length) -> bool
     ensures { λ r. ⌜ r ≡ within 2000000000 (l .0) ⌝ }
 {
-    value::extent(l) <= 2_000_000_000
+    lengths::extent(l) <= 2_000_000_000
 }
 
 fn square(l: Length) -> u64
     requires { ⌜ within 2000000000 (l .0) ≡ true ⌝ }
     ensures { λ r. ⌜ r ≡ square (l .0) ⌝ }
 {
-    let counts = value::extent(l);
+    let counts = lengths::extent(l);
     counts * counts
 }
 

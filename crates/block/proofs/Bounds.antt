@@ -7,25 +7,23 @@ use Prim.Native.Nat.{ℕ, zero, suc, _+_, _*_, _≤_}
 use native.Mathlib.Omega.{arith}
 use lib.Dec.{eqb}
 use lib.IntN.{natAbs}
-use lib.ListN.{length, set}
+use lib.ListN.{set}
 use Rattle.laws.proofs.Ints.{within-sum, within-diff, abs-product}
 use Rattle.rules.specs.Codes.{systemNumber}
 use Rattle.rules.specs.Block.{axis, allAxes, setsOrigin, setsOffset, zeroesOffset}
-use Rattle.rules.specs.Reach.{perTenThousandth, converted, _plus_, _less_, nowhere, at, inReach, inOrder}
-use Rattle.rules.specs.Steps.{feedStep, speedStep, toolStep, changeStep, spindleStep, coolantStep, planeStep, unitsStep, systemStep, distanceStep, originStep, offsetStep, ready, long, originPlace, originSystem, origin, named, originsSet, offsetAt, noOffset}
-use Rattle.rules.specs.Arcs.{planeAxes}
+use Rattle.rules.specs.Reach.{perTenThousandth, converted, _plus_, _less_, nowhere, at, inReach, inOrder, fresh}
+use Rattle.rules.specs.With.{withOrigins}
+use Rattle.rules.specs.Steps.{originStep, offsetStep, ready, long, originPlace, originOf, originSystem, origin, named, originsSet, offsetAt, noOffset}
 use Rattle.rules.specs.declared.Value.{Value}
 use Rattle.rules.specs.declared.Length.{Length}
 use Rattle.rules.specs.declared.Block.{Block}
 use Rattle.rules.specs.declared.Record.{Record}
 use Rattle.record.proofs.InOrder.{on-axis, told}
-use Rattle.block.specs.Bounds.{Ranged, Small}
+use Rattle.block.specs.Bounds.{Ranged, Small, Under}
+use Rattle.block.proofs.Ready.{beforeG10, afterG10, ready-is}
 use native.Mathlib.Nat as N
 
 -- ---- lists of lengths, each at most n in size
-abbrev pub Under : ℕ → List Length → Type 0
-Under n ls = (i : ℕ) → natAbs (at ls i .0) ≤ n
-
 pub in-reach : (ls : List Length) → inReach ls ≡ true → Under 1000000000 ls
 in-reach ls e i = on-axis ls e i .size
 
@@ -43,10 +41,13 @@ under-set n (x ∷ xs) zero l h u (suc i) = u (suc i)
 under-set n (x ∷ xs) (suc k) l h u zero = u zero
 under-set n (x ∷ xs) (suc k) l h u (suc i) = under-set n xs k l h (λ j. u (suc j)) i
 
-under-map : (n : ℕ) (f : ℕ → Length) (is : List ℕ) → ((i : ℕ) → natAbs (f i .0) ≤ n) → Under n (map f is)
+pub under-map : (n : ℕ) (f : ℕ → Length) (is : List ℕ) → ((i : ℕ) → natAbs (f i .0) ≤ n) → Under n (map f is)
 under-map n f [] h i = omega arith
 under-map n f (j ∷ js) h zero = h j
 under-map n f (j ∷ js) h (suc i) = under-map n f js h i
+
+pub origin-under : (n : ℕ) (os : List Length) (k : ℕ) → Under n os → Under n (originOf (withOrigins os fresh) k)
+origin-under n os k u = under-map n (λ (i : ℕ). at os (originPlace k i)) allAxes (λ i. u (originPlace k i))
 
 -- one of two lengths
 one-under : (n : ℕ) (c : Bool) (a b : Length) → natAbs (a .0) ≤ n → natAbs (b .0) ≤ n → natAbs (cond c a b .0) ≤ n
@@ -102,44 +103,21 @@ offset-under b r i q p o f =
     (omega arith))
     (N.le-trans (f i) (omega arith))
 
--- what offsetStep sets
-abbrev offsetsOf : Block → Record → List Length
-offsetsOf b r = cond (setsOffset b) (map (offsetAt b r) allAxes) (cond (zeroesOffset b) noOffset (r .offset))
-
-offsets-under : (b : Block) (r : Record) → Ranged b → Under 1000000000 (r .position) → Under 253999999746 (r .origins) → Under 1000000000 (r .offset) → Under 1000000000000 (offsetsOf b r)
-offsets-under b r q p o f =
-    under-cond 1000000000000 (setsOffset b) (map (offsetAt b r) allAxes) (cond (zeroesOffset b) noOffset (r .offset))
-    (under-map 1000000000000 (offsetAt b r) allAxes (λ i. offset-under b r i q p o f))
-    (under-cond 1000000000000 (zeroesOffset b) noOffset (r .offset)
+pub g92-under : (b : Block) (m : Record) → Ranged b → Under 1000000000 (m .position) → Under 253999999746 (m .origins) → Under 1000000000 (m .offset) → Under 1000000000000 (offsetStep b m .offset)
+unfolding offsetStep
+g92-under b m q p o f =
+    under-cond 1000000000000 (setsOffset b) (map (offsetAt b m) allAxes) (cond (zeroesOffset b) noOffset (m .offset))
+    (under-map 1000000000000 (offsetAt b m) allAxes (λ i. offset-under b m i q p o f))
+    (under-cond 1000000000000 (zeroesOffset b) noOffset (m .offset)
     (under-map 1000000000000 (λ (i : ℕ). nowhere) allAxes (λ i. omega arith))
-    (under-le (r .offset) 1000000000 1000000000000 (omega arith) f))
-
--- the record before G10's step
-abbrev beforeG10 : Block → Record → Record
-beforeG10 b r = distanceStep b (systemStep b (unitsStep b (planeStep b (coolantStep b (spindleStep b (changeStep b (toolStep b (speedStep b (feedStep b r)))))))))
-
-pub ready-origins : (b : Block) (r : Record) → Ranged b → inOrder r ≡ true → Under 253999999746 (ready b r .origins)
-unfolding ready feedStep speedStep toolStep changeStep spindleStep coolantStep planeStep unitsStep systemStep distanceStep offsetStep
-ready-origins b r q e = g10-under b (beforeG10 b r) 253999999746 q (omega arith) (under-le (r .origins) 1000000000 253999999746 (omega arith) (in-reach (r .origins) (told r e .origins)))
-
-pub ready-offset : (b : Block) (r : Record) → Ranged b → inOrder r ≡ true → Under 1000000000000 (ready b r .offset)
-unfolding ready feedStep speedStep toolStep changeStep spindleStep coolantStep planeStep unitsStep systemStep distanceStep originStep offsetStep
-ready-offset b r q e = offsets-under b (originStep b (beforeG10 b r)) q (in-reach (r .position) (told r e .position)) (ready-origins b r q e) (in-reach (r .offset) (told r e .offset))
+    (under-le (m .offset) 1000000000 1000000000000 (omega arith) f))
 
 pub ready-small : (b : Block) (r : Record) → Ranged b → inOrder r ≡ true → Small (ready b r)
-unfolding ready feedStep speedStep toolStep changeStep spindleStep coolantStep planeStep unitsStep systemStep distanceStep originStep offsetStep
-ready-small b r q e = record {
-  position = small r e .position;
-  origins = under-le (ready b r .origins) 253999999746 1000000000000 (omega arith) (ready-origins b r q e);
-  offset = ready-offset b r q e;
-}
-
--- ---- the axes of a plane
-pub two-axes : (plane : ℕ) → length (planeAxes plane) ≡ 2
-unfolding planeAxes
-two-axes plane = go (eqb plane 170) (eqb plane 180)
-  where
-    go : (c d : Bool) → length {A = ℕ} (cond c (0 ∷ 1 ∷ []) (cond d (0 ∷ 2 ∷ []) (1 ∷ 2 ∷ []))) ≡ 2
-    go true d = refl
-    go false true = refl
-    go false false = refl
+ready-small b r q e =
+    let position = in-reach (r .position) (told r e .position) in
+    let origins = g10-under b (beforeG10 b r) 253999999746 q (omega arith) (under-le (r .origins) 1000000000 253999999746 (omega arith) (in-reach (r .origins) (told r e .origins))) in
+    rw (ready-is b r) (record {
+      position = small r e .position;
+      origins = under-le (afterG10 b r .origins) 253999999746 1000000000000 (omega arith) origins;
+      offset = g92-under b (afterG10 b r) q position origins (in-reach (r .offset) (told r e .offset));
+    })

@@ -1,12 +1,9 @@
+pub mod Ready
 pub mod Bounds
 pub mod Sums
-pub mod Keys
 pub mod Modes
-pub mod Ahead
 pub mod Readable
-pub mod Tests
 pub mod Judged
 pub mod Ways
-pub mod Laying
 pub mod Order
 pub mod Soles

@@ -1,4 +1,4 @@
--- What the steps leave of the record that numbers 10 and 14 read, and what numbers 10 and 11 tell of the line's T and P: these two are judged before the steps are taken.
+-- What numbers 10 and 11 tell of the line's T and P where they are not given.
 -- Assumes nothing.
 use mathlib.Core.Path.{_≡_, refl}
 use mathlib.Core.Bool.{Bool, true, false, not, _&&_, _||_, false≢true, true≢false, and-eq-true-iff}
@@ -8,8 +8,7 @@ use lib.Dec.{leb}
 use lib.IntN.{pos, negsuc}
 use borrow.Author.Tests.{not-false, leb-true, le-leb}
 use Rattle.rules.specs.Numbers.{whole, between, counted}
-use Rattle.rules.specs.Block.{axis, offset, anyOf, dwells, setsOrigin, machine, setsOffset, namesAxis, orElse}
-use Rattle.rules.specs.Steps.{feedStep, speedStep, toolStep, changeStep, spindleStep, coolantStep, planeStep, unitsStep, systemStep, distanceStep, originStep, offsetStep, ready, motionOf}
+use Rattle.rules.specs.Block.{axis, offset, anyOf, dwells, setsOrigin, machine, setsOffset, namesAxis}
 use Rattle.rules.specs.Arcs.{arcMove, planeAxes}
 use Rattle.rules.specs.Refusals.{movingCode, missing, below0, outside, wrongWord}
 use Rattle.rules.specs.declared.Near.{Near}
@@ -17,19 +16,6 @@ use Rattle.rules.specs.declared.Near.the-variants.{To, Nothing}
 use Rattle.rules.specs.declared.Block.{Block}
 use Rattle.rules.specs.declared.Record.{Record}
 use Rattle.block.specs.Bounds.{Numbered}
-
--- ---- the position, the plane and the motion that the steps leave
-pub ready-position : (b : Block) (r : Record) → ready b r .position ≡ r .position
-unfolding ready feedStep speedStep toolStep changeStep spindleStep coolantStep planeStep unitsStep systemStep distanceStep originStep offsetStep
-ready-position b r = refl
-
-pub ready-plane : (b : Block) (r : Record) → ready b r .plane ≡ orElse (b .plane) (r .plane)
-unfolding ready feedStep speedStep toolStep changeStep spindleStep coolantStep planeStep unitsStep systemStep distanceStep originStep offsetStep
-ready-plane b r = refl
-
-pub ready-motion : (b : Block) (r : Record) → motionOf b (ready b r) ≡ orElse (b .motion) (r .motion)
-unfolding ready feedStep speedStep toolStep changeStep spindleStep coolantStep planeStep unitsStep systemStep distanceStep originStep offsetStep
-ready-motion b r = refl
 
 -- ---- where neither 10 nor 11 is given
 pub neither : (a b : Bool) → (a || b) ≡ false → (a ≡ false) × (b ≡ false)

@@ -12,19 +12,22 @@ use borrow.Author.Tests.{ne-eqb, lt-ltb, le-ltb}
 use Rattle.rules.specs.Meaning.{Said}
 use Rattle.rules.specs.Block.{blockOf, orElse}
 use Rattle.rules.specs.Reach.{inReach, inOrder}
-use Rattle.rules.specs.Steps.{ready, left, motionOf}
+use Rattle.rules.specs.Steps.{ready, left}
 use Rattle.rules.specs.Commands.{commands, written}
-use Rattle.rules.specs.Refusals.{Case, _when_, first, unserved, doubled, wrongWord}
+use Rattle.rules.specs.Refusals.{Case, _when_, first, unserved, doubled, missing, idle, wrongWord}
 use Rattle.rules.specs.Promise.{over}
 use Rattle.rules.specs.declared.Block.{Block}
 use Rattle.rules.specs.declared.Record.{Record}
 use Rattle.rules.specs.declared.Answer.the-variants.{Accepted, Refused}
 use Rattle.record.proofs.InOrder.{told}
 use Rattle.block.specs.Bounds.{Numbered}
-use Rattle.block.specs.Judged.{missingIn, idleIn, early, late, remaining}
-use Rattle.block.specs.Execution.{Done, done, doneBy, executed, unread, execution}
-use Rattle.block.proofs.Modes.{numbered, ready-plane, ready-motion, ready-position}
-use Rattle.block.proofs.Judged.{missing-is, idle-is}
+use Rattle.summary.specs.Words.{said, lettered}
+use Rattle.checks.specs.Modes.{inModes, early}
+use Rattle.checks.proofs.Modes.{early-by}
+use Rattle.block.specs.Judged.{late, remaining}
+use Rattle.block.specs.Execution.{Done, done, doneBy, executed, allInRange, execution}
+use Rattle.block.proofs.Modes.{numbered}
+use Rattle.block.proofs.Ready.{ready-plane, ready-motion, ready-position}
 
 -- ---- the first of two lists of conditions
 abbrev Positive : List Case → Type 0
@@ -44,7 +47,7 @@ first-none ((k when false) ∷ cs) ds p e = first-none cs ds (p .1) e
 -- ---- numbers 10 to 15, one part after the other
 module _ (b : Block) (m : Record) (room : ℕ) where
   abbrev tests : List Case
-  tests = early b (m .plane) (motionOf b m)
+  tests = early b m
 
   abbrev short : List Case
   short = (15 when ltb room (8 * length (commands b m))) ∷ []
@@ -70,8 +73,8 @@ module _ (b : Block) (m : Record) (room : ℕ) where
       by-none h = past-late ∙ rw (le-ltb room (8 * length (commands b m)) h) refl
 
 -- ---- numbers 10 and 11 before the record is worked
-pub early-ready : (b : Block) (r : Record) → early b (ready b r .plane) (motionOf b (ready b r)) ≡ early b (orElse (b .plane) (r .plane)) (orElse (b .motion) (r .motion))
-early-ready b r = rw (ready-plane b r, ready-motion b r) refl
+pub early-ready : (b : Block) (r : Record) → early b (ready b r) ≡ early b (inModes (orElse (b .plane) (r .plane)) (r .motion))
+early-ready b r = early-by b (ready b r) ∙ rw (ready-plane b r, ready-motion b r) refl
 
 untold : (a b c : Bool) → first ((10 when (a || b)) ∷ (11 when c) ∷ []) ≡ 0 → (a ≡ false) × (c ≡ false)
 untold true b c e = absurd (omega arith)
@@ -79,10 +82,10 @@ untold false true c e = absurd (omega arith)
 untold false false true e = absurd (omega arith)
 untold false false false e = (refl, refl)
 
-pub early-numbered : (b : Block) (m : Record) → first (early b (m .plane) (motionOf b m)) ≡ 0 → Numbered b
+pub early-numbered : (b : Block) (m : Record) → first (early b m) ≡ 0 → Numbered b
 early-numbered b m e =
-    let neither-of = untold (missingIn b (m .plane) (motionOf b m)) (idleIn b (m .plane) (motionOf b m)) (wrongWord b) e in
-    numbered b m (missing-is b m ∙ neither-of .0) (neither-of .1)
+    let neither-of = untold (missing b m) (idle b m) (wrongWord b) e in
+    numbered b m (neither-of .0) (neither-of .1)
 
 -- ---- the position is in reach until the motion step
 pub ready-reached : (b : Block) (r : Record) → inOrder r ≡ true → inReach (ready b r .position) ≡ true
@@ -97,34 +100,34 @@ pub accepted-by : (b : Block) (r : Record) (out : List ℤ) {m : ℕ} → m ≡ 
 accepted-by b r out e = rw e refl
 
 -- ---- the whole, number by number
-module _ (ws : List Said) (r : Record) (out : List ℤ) where
-  pub number-1 : inOrder r ≡ false → done (Refused 1) r out ≡ execution ws r out
+module _ (ls : List ℕ) (vs : List ℤ) (r : Record) (out : List ℤ) where
+  abbrev words : List Said
+  words = lettered (said ls vs)
+
+  pub number-1 : inOrder r ≡ false → done (Refused 1) r out ≡ execution ls vs r out
   unfolding execution
   number-1 e = rw e refl
 
   module _ (ordered : inOrder r ≡ true) where
-    pub number-unread : (n : ℕ) → unread ws ≡ n → (n ≡ 0 → ⊥) → done (Refused n) r out ≡ execution ws r out
+    pub number-5 : allInRange vs ≡ false → done (Refused 5) r out ≡ execution ls vs r out
     unfolding execution
-    number-unread n e f = rw (ordered, e, ne-eqb n 0 f) refl
+    number-5 e = rw (ordered, e) refl
 
-    module _ (read : unread ws ≡ 0) where
-      by-words : executed ws r out ≡ execution ws r out
+    module _ (ranged : allInRange vs ≡ true) where
+      by-words : executed words r out ≡ execution ls vs r out
       unfolding execution
-      by-words = rw (ordered, read) refl
+      by-words = rw (ordered, ranged) refl
 
-      pub number-8 : unserved ws ≡ true → done (Refused 8) r out ≡ execution ws r out
+      pub number-8 : unserved words ≡ true → done (Refused 8) r out ≡ execution ls vs r out
       unfolding executed
       number-8 e = rw e at by-words
 
-      module _ (served : unserved ws ≡ false) where
-        pub number-9 : doubled ws (blockOf ws) ≡ true → done (Refused 9) r out ≡ execution ws r out
+      module _ (served : unserved words ≡ false) where
+        pub number-9 : doubled words (blockOf words) ≡ true → done (Refused 9) r out ≡ execution ls vs r out
         unfolding executed
         number-9 e = rw (served, e) at by-words
 
-        pub numbers-after : doubled ws (blockOf ws) ≡ false
-            → doneBy (first (remaining (blockOf ws) (ready (blockOf ws) r) (length out))) (blockOf ws) r out ≡ execution ws r out
+        pub numbers-after : doubled words (blockOf words) ≡ false
+            → doneBy (first (remaining (blockOf words) (ready (blockOf words) r) (length out))) (blockOf words) r out ≡ execution ls vs r out
         unfolding executed
-        numbers-after e =
-            let b = blockOf ws in
-            let m = ready b r in
-            rw (← missing-is b m, ← idle-is b m) (rw (served, e) at by-words)
+        numbers-after e = rw (served, e) at by-words

@@ -5,17 +5,11 @@ use Prim.Native.Nat.{ℕ, _≤_}
 use native.Mathlib.Omega.{arith}
 use native.Mathlib.Nat as N
 use lib.IntN.{natAbs, _+ℤ_, _-ℤ_}
-use Rattle.rules.specs.Codes.{systemNumber}
-use Rattle.rules.specs.Block.{axis, offset}
-use Rattle.rules.specs.Reach.{_plus_, _less_, at}
-use Rattle.rules.specs.Steps.{long, originPlace, origin}
-use Rattle.rules.specs.Arcs.{centreAt}
+use Rattle.rules.specs.Reach.{converted, _plus_, _less_}
+use Rattle.rules.specs.declared.Value.{Value}
 use Rattle.rules.specs.declared.Length.{Length}
-use Rattle.rules.specs.declared.Block.{Block}
-use Rattle.rules.specs.declared.Record.{Record}
-use Rattle.value.specs.Guarded.{saturated}
-use Rattle.value.proofs.Lengths.{saturated-is}
-use Rattle.block.specs.Bounds.{Ranged, Small}
+use Rattle.lengths.specs.Saturated.{saturated}
+use Rattle.lengths.proofs.Lengths.{saturated-is}
 use Rattle.block.proofs.Bounds.{converted-under, sum-under, less-under}
 
 -- two lengths of at most 4 · 10^18 in size
@@ -25,39 +19,22 @@ plus-is a b h k = saturated-is {z = a .0 +ℤ b .0} (record { size = N.le-trans 
 pub less-is : (a b : Length) → natAbs (a .0) ≤ 4000000000000000000 → natAbs (b .0) ≤ 4000000000000000000 → saturated (a .0 -ℤ b .0) ≡ a less b
 less-is a b h k = saturated-is {z = a .0 -ℤ b .0} (record { size = N.le-trans (less-under a b 4000000000000000000 4000000000000000000 h k) (omega arith) })
 
--- ---- the sums of target, centre and G92, at an axis
-module _ (b : Block) (m : Record) (q : Ranged b) (s : Small m) (i : ℕ) where
-  abbrev here : Length
-  here = at (m .position) i
+-- ---- the sums of target, centre and G92, on an axis
+abbrev Short : Length → Type 0
+Short l = natAbs (l .0) ≤ 1000000000000
 
-  abbrev word : Length
-  word = long m (axis b i)
+pub word-short : (units : ℕ) (v : Value) → natAbs (v .0) ≤ 999999999 → Short (converted units v)
+word-short units v h = N.le-trans (converted-under units v h) (omega arith)
 
-  word-small : natAbs (word .0) ≤ 1000000000000
-  word-small = N.le-trans (converted-under (m .units) (axis b i .value) (q .axes i)) (omega arith)
+pub from-here : (here word : Length) → Short here → Short word → saturated (here .0 +ℤ word .0) ≡ here plus word
+from-here here word h w = plus-is here word (N.le-trans h (omega arith)) (N.le-trans w (omega arith))
 
-  origin-small : natAbs (origin m i .0) ≤ 1000000000000
-  origin-small = s .origins (originPlace (systemNumber (m .system)) i)
+pub from-origin : (word origin offset : Length) → Short word → Short origin → Short offset → saturated (saturated (word .0 +ℤ origin .0) .0 +ℤ offset .0) ≡ (word plus origin) plus offset
+from-origin word origin offset w o f =
+    ap (λ (l : Length). saturated (l .0 +ℤ offset .0)) (from-here word origin w o)
+    ∙ plus-is (word plus origin) offset (N.le-trans (sum-under word origin 1000000000000 1000000000000 w o) (omega arith)) (N.le-trans f (omega arith))
 
-  pub from-here : saturated (here .0 +ℤ word .0) ≡ here plus word
-  from-here = plus-is here word (N.le-trans (s .position i) (omega arith)) (N.le-trans word-small (omega arith))
-
-  pub from-origin : saturated (saturated (word .0 +ℤ origin m i .0) .0 +ℤ at (m .offset) i .0) ≡ (word plus origin m i) plus at (m .offset) i
-  from-origin =
-      ap (λ (l : Length). saturated (l .0 +ℤ at (m .offset) i .0)) (plus-is word (origin m i) (N.le-trans word-small (omega arith)) (N.le-trans origin-small (omega arith)))
-      ∙ plus-is (word plus origin m i) (at (m .offset) i)
-      (N.le-trans (sum-under word (origin m i) 1000000000000 1000000000000 word-small origin-small) (omega arith))
-      (N.le-trans (s .offset i) (omega arith))
-
-  pub new-offset-is : saturated (saturated (here .0 -ℤ origin m i .0) .0 -ℤ word .0) ≡ (here less origin m i) less word
-  new-offset-is =
-      ap (λ (l : Length). saturated (l .0 -ℤ word .0)) (less-is here (origin m i) (N.le-trans (s .position i) (omega arith)) (N.le-trans origin-small (omega arith)))
-      ∙ less-is (here less origin m i) word
-      (N.le-trans (less-under here (origin m i) 1000000000000 1000000000000 (s .position i) origin-small) (omega arith))
-      (N.le-trans word-small (omega arith))
-
-  pub centre-is : saturated (here .0 +ℤ long m (offset b i) .0) ≡ centreAt b m i
-  centre-is =
-      plus-is here (long m (offset b i))
-      (N.le-trans (s .position i) (omega arith))
-      (N.le-trans (converted-under (m .units) (offset b i .value) (q .offsets i)) (omega arith))
+pub new-offset-is : (here origin word : Length) → Short here → Short origin → Short word → saturated (saturated (here .0 -ℤ origin .0) .0 -ℤ word .0) ≡ (here less origin) less word
+new-offset-is here origin word h o w =
+    ap (λ (l : Length). saturated (l .0 -ℤ word .0)) (less-is here origin (N.le-trans h (omega arith)) (N.le-trans o (omega arith)))
+    ∙ less-is (here less origin) word (N.le-trans (less-under here origin 1000000000000 1000000000000 h o) (omega arith)) (N.le-trans w (omega arith))

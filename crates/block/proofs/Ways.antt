@@ -1,27 +1,27 @@
 -- Ways from an arc's centre: what the code works out on the plane's two axes is what number 14 says of its centre and radii.
 -- Assumes nothing.
 use mathlib.Core.Path.{_≡_, refl, sym, ap, _∙_}
-use mathlib.Core.Bool.{Bool, true, _&&_, _||_, and-true, and-eq-true-iff}
+use mathlib.Core.Bool.{Bool, true, _&&_, and-true, and-eq-true-iff}
 use mathlib.Core.List.{List, [], _∷_, map}
 use Prim.Native.Nat.{ℕ}
 use native.Mathlib.Nat.{le-trans}
 use native.Mathlib.Omega.{arith}
-use lib.Dec.{eqb}
-use lib.ListN.{length, length-map}
+use lib.ListN.{length, getD}
 use lib.IntN.{natAbs, _-ℤ_}
 use borrow.Author.Tests.{leb-true, le-leb}
 use Rattle.rules.specs.Numbers.{within}
 use Rattle.rules.specs.Reach.{_less_, at, inReach}
 use Rattle.rules.specs.Steps.{target}
-use Rattle.rules.specs.Arcs.{planeAxes, centreAt, centre, slack, badArc}
+use Rattle.rules.specs.Arcs.{planeAxes, centreAt, centre, badArc}
 use Rattle.rules.specs.declared.Length.{Length}
 use Rattle.rules.specs.declared.Block.{Block}
 use Rattle.rules.specs.declared.Record.{Record}
-use Rattle.arcs.specs.Ways.{summed, measurable, tooUnequal}
+use Rattle.arcs.specs.Ways.{measurable}
 use Rattle.arcs.proofs.BadArc.{way, bad-arc}
-use Rattle.value.specs.Guarded.{saturated}
-use Rattle.block.specs.Judged.{ways}
-use Rattle.block.proofs.Bounds.{in-reach, less-under, two-axes}
+use Rattle.checks.proofs.Axes.{plane-two}
+use Rattle.lengths.specs.Saturated.{saturated}
+use Rattle.block.specs.Judged.{ways, badWays}
+use Rattle.block.proofs.Bounds.{in-reach, less-under}
 use Rattle.block.proofs.Sums.{less-is}
 
 -- ---- two lengths
@@ -31,35 +31,26 @@ both-in-reach (a ∷ []) e = absurd (omega arith)
 both-in-reach (a ∷ b ∷ []) e = ap (λ (t : Bool). within 1000000000 (a .0) && t) (sym (and-true (within 1000000000 (b .0))))
 both-in-reach (a ∷ b ∷ c ∷ ls) e = absurd (omega arith)
 
-both-ways : (ps cs : List Length) → length ps ≡ 2 → length cs ≡ 2 → _≡_ {A = List Length} ((at ps 0 less at cs 0) ∷ (at ps 1 less at cs 1) ∷ []) (ways ps cs)
-both-ways [] cs e f = absurd (omega arith)
-both-ways (a ∷ []) cs e f = absurd (omega arith)
-both-ways (a ∷ b ∷ c ∷ ps) cs e f = absurd (omega arith)
-both-ways (a ∷ b ∷ []) [] e f = absurd (omega arith)
-both-ways (a ∷ b ∷ []) (c ∷ []) e f = absurd (omega arith)
-both-ways (a ∷ b ∷ []) (c ∷ d ∷ []) e f = refl
-both-ways (a ∷ b ∷ []) (c ∷ d ∷ x ∷ cs) e f = absurd (omega arith)
+both-ways : (a b : Length) (cs : List Length) → length cs ≡ 2 → _≡_ {A = List Length} ((a less at cs 0) ∷ (b less at cs 1) ∷ []) (ways (a ∷ b ∷ []) cs)
+both-ways a b [] e = absurd (omega arith)
+both-ways a b (c ∷ []) e = absurd (omega arith)
+both-ways a b (c ∷ d ∷ []) e = refl
+both-ways a b (c ∷ d ∷ x ∷ cs) e = absurd (omega arith)
 
 -- ---- the axes of the plane, of a place in reach
-pub plane-two : (f : ℕ → Length) (plane : ℕ) → length (map f (planeAxes plane)) ≡ 2
-plane-two f plane = length-map (planeAxes plane) f ∙ two-axes plane
-
 seen-reach : (place : List Length) (is : List ℕ) → inReach place ≡ true → inReach (map (at place) is) ≡ true
 seen-reach place [] e = refl
 seen-reach place (i ∷ is) e = rw (le-leb (natAbs (at place i .0)) 1000000000 (in-reach place e i)) (seen-reach place is e)
 
 module _ (place : List Length) (plane : ℕ) (cs : List Length) (near : inReach place ≡ true) (two : length cs ≡ 2) (reached : inReach cs ≡ true) where
-  abbrev seen : List Length
-  seen = map (at place) (planeAxes plane)
+  difference : (i k : ℕ) → saturated (at place i .0 -ℤ at cs k .0) ≡ (at place i less at cs k)
+  difference i k = less-is (at place i) (at cs k) (le-trans (in-reach place near i) (omega arith)) (le-trans (in-reach cs reached k) (omega arith))
 
-  difference : (i : ℕ) → saturated (at seen i .0 -ℤ at cs i .0) ≡ (at seen i less at cs i)
-  difference i =
-      less-is (at seen i) (at cs i)
-      (le-trans (in-reach seen (seen-reach place (planeAxes plane) near) i) (omega arith))
-      (le-trans (in-reach cs reached i) (omega arith))
-
-  pub way-is : _≡_ {A = List Length} (saturated (at seen 0 .0 -ℤ at cs 0 .0) ∷ saturated (at seen 1 .0 -ℤ at cs 1 .0) ∷ []) (ways seen cs)
-  way-is = rw (difference 0, difference 1) (both-ways seen cs (plane-two (at place) plane) two)
+  pub way-is : _≡_ {A = List Length} (saturated (at place (getD (planeAxes plane) 0 0) .0 -ℤ at cs 0 .0) ∷ saturated (at place (getD (planeAxes plane) 1 0) .0 -ℤ at cs 1 .0) ∷ []) (ways (map (at place) (planeAxes plane)) cs)
+  way-is =
+      rw (difference (getD (planeAxes plane) 0 0) 0, difference (getD (planeAxes plane) 1 0) 1)
+      (both-ways (at place (getD (planeAxes plane) 0 0)) (at place (getD (planeAxes plane) 1 0)) cs two
+      ∙ ap (λ (is : List ℕ). ways (map (at place) is) cs) (plane-two plane))
 
 -- ---- ways between places in reach can be measured
 ways-measurable : (ps cs : List Length) → inReach ps ≡ true → inReach cs ≡ true → measurable (ways ps cs) ≡ true
@@ -89,6 +80,6 @@ module _ (b : Block) (m : Record) (middle : inReach (centre b m) ≡ true) where
       ap measurable (sym (to-place place)) ∙ ways-measurable (map (at place) (planeAxes (m .plane))) (centre b m) (seen-reach place (planeAxes (m .plane)) near) middle
 
   pub bad-arc-is : inReach (m .position) ≡ true → inReach (target b m) ≡ true
-      → (eqb (summed (wayTo (m .position))) 0 || tooUnequal (wayTo (m .position)) (wayTo (target b m)) (slack (m .units))) ≡ badArc b m
+      → badWays (m .position) (target b m) (centre b m) (m .plane) (m .units) ≡ badArc b m
   bad-arc-is near far =
       rw (to-place (m .position), to-place (target b m)) (bad-arc b m (to-measure (m .position) near) (to-measure (target b m) far))

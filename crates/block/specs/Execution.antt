@@ -1,20 +1,20 @@
 -- What is left of a line's words, a record and an output space once the line is read: numbers 8 to 15, or the line's work.
 -- Assumes nothing.
-use mathlib.Core.Bool.{Bool, true, cond, not, _&&_}
+use mathlib.Core.Bool.{Bool, true, cond, _&&_}
 use mathlib.Core.List.{List, [], _∷_}
 use Prim.Native.Nat.{ℕ}
-use lib.Dec.{eqb, ltb}
+use lib.Dec.{eqb}
 use lib.ListN.{length}
 use lib.IntN.{ℤ}
-use Rattle.grammar.specs.Grammar.{letter}
 use Rattle.rules.specs.Numbers.{inRange}
 use Rattle.rules.specs.Meaning.{Said}
 use Rattle.rules.specs.Block.{blockOf}
 use Rattle.rules.specs.Reach.{inOrder}
 use Rattle.rules.specs.Steps.{ready, left}
 use Rattle.rules.specs.Commands.{commands, written}
-use Rattle.rules.specs.Refusals.{_when_, first, refusals}
+use Rattle.rules.specs.Refusals.{first, refusals}
 use Rattle.rules.specs.Promise.{over}
+use Rattle.summary.specs.Words.{said, lettered}
 use Rattle.rules.specs.declared.Block.{Block}
 use Rattle.rules.specs.declared.Record.{Record}
 use Rattle.rules.specs.declared.Outcome.{Outcome}
@@ -39,23 +39,15 @@ doneBy n b r out =
 unfoldable pub executed : List Said → Record → List ℤ → Done
 executed ws r out = doneBy (first (refusals ws (blockOf ws) (ready (blockOf ws) r) (length out))) (blockOf ws) r out
 
--- every letter is one of a word's
-abbrev pub allLettered : List Said → Bool
-allLettered [] = true
-allLettered (w ∷ ws) = letter (w .letter) && allLettered ws
-
 -- every value is in range
-abbrev pub allRanged : List Said → Bool
-allRanged [] = true
-allRanged (w ∷ ws) = inRange (w .value) && allRanged ws
+abbrev pub allInRange : List ℤ → Bool
+allInRange [] = true
+allInRange (v ∷ vs) = inRange v && allInRange vs
 
--- words that no line gives: more than 256 bytes hold (2), with a letter that no word has (3), with a value out of range (5); 0 for any others
-unfoldable pub unread : List Said → ℕ
-unread ws = first ((2 when ltb 128 (length ws)) ∷ (3 when not (allLettered ws)) ∷ (5 when not (allRanged ws)) ∷ [])
-
--- the same for every record and for all words: a record out of order is number 1, and words that no line gives have their number too
-unfoldable pub execution : List Said → Record → List ℤ → Done
-execution ws r out =
+-- the same for every record and for all words, letters and values side by side: a record out of order is number 1, a value out of range 5, and a word of a
+-- letter that no line gives is passed over
+unfoldable pub execution : List ℕ → List ℤ → Record → List ℤ → Done
+execution ls vs r out =
     cond (inOrder r)
-    (cond (eqb (unread ws) 0) (executed ws r out) (done (Refused (unread ws)) r out))
+    (cond (allInRange vs) (executed (lettered (said ls vs)) r out) (done (Refused 5) r out))
     (done (Refused 1) r out)

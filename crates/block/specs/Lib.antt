@@ -1,5 +1,4 @@
-pub mod Held
 pub mod Bounds
+pub mod Motion
 pub mod Judged
-pub mod Laying
 pub mod Execution

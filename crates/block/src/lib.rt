@@ -1,9 +1,7 @@
 // One line's words worked against the record: numbers 8 to 15, the steps of an accepted line, and
 // its commands.
-mod checks;
-mod marks;
+mod limits;
 mod motion;
-mod orders;
 mod steps;
 mod words;
 
@@ -15,10 +13,11 @@ ghost use Rattle.rules.specs.Refusals.{first};
 ghost use Rattle.rules.specs.Steps.{ready};
 ghost use Rattle.rules.specs.declared.Answer.the-variants.{Refused};
 ghost use Rattle.block.specs.Bounds.{Ranged};
-ghost use Rattle.block.specs.Held.{said};
 ghost use Rattle.block.specs.Execution.{doneBy, execution};
 ghost use Rattle.block.specs.Judged.{remaining};
-use marks::or_else;
+use checks::or_else;
+use orders::Order;
+use orders::Written;
 use rules::Answer;
 use rules::Block;
 use rules::Outcome;
@@ -34,27 +33,22 @@ pub fn execute(
     rec: Record,
     out: &mut [i64],
 ) -> Outcome
-    ensures { λ r. ⌜ record { outcome = r; out = now (out .exit) } ≡ execution (said (take count (now (letters .entry))) (take count (now (values .entry)))) rec (now (out .entry)) ⌝ }
+    ensures { λ r. ⌜ record { outcome = r; out = now (out .exit) } ≡ execution (take count (now (letters .entry))) (take count (now (values .entry))) rec (now (out .entry)) ⌝ }
 {
     if !record::in_order(rec) {
         return refused(1, rec);
     }
-    let held = words::held(letters, values, count);
-    let letters = &letters[..held];
-    let values = &values[..held];
-    let number = words::unread(letters, values);
-    if number != 0 {
-        return refused(number, rec);
+    if !words::all_ranged(values, count) {
+        return refused(5, rec);
     }
-    let b = words::summary(letters, values);
-    let unserved = words::unserved(letters, values);
-    let doubled = words::doubled(letters, values, b);
-    if unserved {
+    let line = summary::summarize(letters, values, count);
+    if line.unserved {
         return refused(8, rec);
     }
-    if doubled {
+    if line.doubled {
         return refused(9, rec);
     }
+    let b = line.block;
     work(b, rec, out)
 }
 
@@ -74,27 +68,29 @@ fn work(b: Block, rec: Record, out: &mut [i64]) -> Outcome
     requires { ⌜ inOrder rec ≡ true ⌝ }
     ensures { λ r. ⌜ record { outcome = r; out = now (out .exit) } ≡ doneBy (first (remaining b (ready b rec) (length (now (out .entry))))) b rec (now (out .entry)) ⌝ }
 {
-    let number = checks::early(
-        b,
-        or_else(b.plane, rec.plane),
-        or_else(b.motion, rec.motion),
-    );
+    let number = checks::early(b, or_else(b.plane, rec.plane), rec.motion);
     if number != 0 {
         return refused(number, rec);
     }
     let m = steps::ready(b, rec);
-    let number = checks::late(b, m);
+    let t = motion::travel_of(b, m);
+    let number = limits::late(b, m, t);
     if number != 0 {
         return refused(number, rec);
     }
-    let count = orders::count(b);
-    if out.len() < 8 * (count as usize) {
-        return refused(15, rec);
-    }
-    orders::write(b, m, out);
-    let after = steps::left(b, m);
-    Outcome {
-        answer: Answer::Accepted(count),
-        rec: after,
+    let moving = Order {
+        asked: t.moving,
+        command: motion::move_command(t, m.plane),
+    };
+    let orders = orders::orders_of(b, m.feed, m.speed, m.tool, moving);
+    match orders::write(orders, out) {
+        Written::Commands(count) => {
+            let to = t.to;
+            Outcome {
+                answer: Answer::Accepted(count),
+                rec: steps::left(b, m, to, t.motion),
+            }
+        }
+        Written::NoRoom => refused(15, rec),
     }
 }

@@ -7,16 +7,16 @@ ghost use lib.Dec.{eqb};
 ghost use lib.IntN.{natAbs};
 ghost use lib.ListN.{set};
 ghost use Rattle.rules.specs.Numbers.{whole, between, counted};
-ghost use Rattle.rules.specs.Reach.{converted, at};
-ghost use Rattle.rules.specs.Steps.{spindleOf, coolantWith, originPlace, originStep, offsetAt, offsetStep, ready, motionStep, stopStep};
+ghost use Rattle.rules.specs.Reach.{converted, _less_, at};
+ghost use Rattle.rules.specs.Steps.{spindleOf, coolantWith, originPlace, originStep, offsetStep, ready, motionOf, motionStep, stopStep};
 ghost use Rattle.block.specs.Bounds.{Ranged, Small, Numbered};
-use super::marks::ends;
-use super::marks::has;
-use super::marks::moves;
-use super::marks::or_else;
+ghost use Rattle.block.specs.Motion.{endOf};
 use super::motion::long;
-use super::motion::origin_at;
-use super::motion::target;
+use super::motion::origin_in_force;
+use checks::ends;
+use checks::has;
+use checks::or_else;
+use lengths::subtract;
 use rules::Block;
 use rules::Code;
 use rules::Length;
@@ -24,7 +24,6 @@ use rules::Near;
 use rules::Record;
 use rules::Value;
 use rules::Word;
-use value::subtract;
 use value::whole;
 
 // The record as the motion step finds it. F counts in the units in force before the line, axis
@@ -53,15 +52,14 @@ pub(crate) fn ready(b: Block, r: Record) -> Record
 }
 
 // The record as the line leaves it: moved, and reset by M2 or M30.
-pub(crate) fn left(b: Block, m: Record) -> Record
-    requires { ⌜ Ranged b ⌝ }
-    requires { ⌜ Small m ⌝ }
+pub(crate) fn left(b: Block, m: Record, to: [Length; 3], motion: u16) -> Record
+    requires { ⌜ to ≡ endOf b m ⌝ }
+    requires { ⌜ motion ≡ motionOf b m ⌝ }
     ensures { λ q. ⌜ q ≡ stopStep b (motionStep b m) ⌝ }
 {
     let mut q = m;
-    let position = new_position(b, m);
-    q.position = position;
-    q.motion = or_else(b.motion, m.motion);
+    q.position = to;
+    q.motion = motion;
     if ends(b) {
         q.system = 540;
         q.plane = 170;
@@ -130,7 +128,7 @@ fn new_spindle(change: Code, spindle: Code, old: u8) -> u8
     old
 }
 
-pub(crate) fn spindle_of(code: u16) -> u8
+fn spindle_of(code: u16) -> u8
     ensures { λ r. ⌜ r ≡ spindleOf code ⌝ }
 {
     match code {
@@ -208,38 +206,33 @@ fn new_offset(b: Block, m: Record) -> [Length; 3]
     requires { ⌜ Small m ⌝ }
     ensures { λ r. ⌜ r ≡ offsetStep b m .offset ⌝ }
 {
+    let offset = m.offset;
     if has(b.once, 920) {
-        return [offset_at(b, m, 0), offset_at(b, m, 1), offset_at(b, m, 2)];
+        let axes = b.axes;
+        let here = m.position;
+        let origins = m.origins;
+        let origin = origin_in_force(origins, m.system);
+        return [
+            offset_at(axes[0], here[0], origin[0], m.units, offset[0]),
+            offset_at(axes[1], here[1], origin[1], m.units, offset[1]),
+            offset_at(axes[2], here[2], origin[2], m.units, offset[2]),
+        ];
     }
     if has(b.once, 921) {
         return [Length(0), Length(0), Length(0)];
     }
-    m.offset
+    offset
 }
 
-fn offset_at(b: Block, m: Record, i: usize) -> Length
-    requires { ⌜ Ranged b ⌝ }
-    requires { ⌜ Small m ⌝ }
-    requires { ⌜ i < 3 ⌝ }
-    ensures { λ r. ⌜ r ≡ offsetAt b m i ⌝ }
+// The offset by which the word names the position.
+fn offset_at(w: Word, here: Length, origin: Length, units: u16, old: Length) -> Length
+    requires { ⌜ natAbs (w .value .0) ≤ 999999999 ⌝ }
+    requires { ⌜ natAbs (here .0) ≤ 1000000000000 ⌝ }
+    requires { ⌜ natAbs (origin .0) ≤ 1000000000000 ⌝ }
+    ensures { λ r. ⌜ r ≡ cond (w .given) ((here less origin) less converted units (w .value)) old ⌝ }
 {
-    let word = b.axes[i];
-    if word.given {
-        let here = m.position[i];
-        let origins = m.origins;
-        let from_origin = subtract(here, origin_at(origins, m.system, i));
-        return subtract(from_origin, long(m.units, word));
+    if w.given {
+        return subtract(subtract(here, origin), long(units, w));
     }
-    m.offset[i]
-}
-
-fn new_position(b: Block, m: Record) -> [Length; 3]
-    requires { ⌜ Ranged b ⌝ }
-    requires { ⌜ Small m ⌝ }
-    ensures { λ r. ⌜ r ≡ motionStep b m .position ⌝ }
-{
-    if moves(b) {
-        return target(b, m);
-    }
-    m.position
+    old
 }

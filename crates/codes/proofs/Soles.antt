@@ -3,6 +3,7 @@
 use mathlib.Core.Path.{refl}
 use Rattle.laws.proofs.Sole.{Sole, alike}
 use Rattle.codes.proofs.g_table.g_group as gGroup
+use Rattle.codes.proofs.g_table.modes_served as modesServed
 use Rattle.codes.proofs.m_table.m_group as mGroup
 use Rattle.codes.proofs.system_number as systemNumber
 use Rattle.codes.proofs.g_code as gCode
@@ -10,6 +11,9 @@ use Rattle.codes.proofs.m_code as mCode
 
 pub gGroup-sole : Sole gGroup.ended (λ M. gGroup.clauses)
 gGroup-sole = record { says = _; is = λ M 𝓤 H A mem run κs a ghost r e. refl; one = λ κs a r r′ ws ws′ p q. (alike p q, refl) }
+
+pub modesServed-sole : Sole modesServed.ended (λ M. modesServed.clauses)
+modesServed-sole = record { says = _; is = λ M 𝓤 H A mem run κs a ghost r e. refl; one = λ κs a r r′ ws ws′ p q. (alike p q, refl) }
 
 pub mGroup-sole : Sole mGroup.ended (λ M. mGroup.clauses)
 mGroup-sole = record { says = _; is = λ M 𝓤 H A mem run κs a ghost r e. refl; one = λ κs a r r′ ws ws′ p q. (alike p q, refl) }

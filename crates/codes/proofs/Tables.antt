@@ -1,14 +1,14 @@
 -- A table's rule at all of its entries, and past its end.
 -- Assumes nothing.
 use mathlib.Core.Path.{_≡_, refl, _∙_, ap, sym}
-use mathlib.Core.Bool.{Bool, true, false, _&&_}
+use mathlib.Core.Bool.{Bool, true, false, cond, _&&_}
 use mathlib.Core.List.{List, [], _∷_}
 use Prim.Native.Nat.{ℕ, zero, suc, _+_, _<_, _≤_}
 use native.Mathlib.Nat.{add-zero, zero-add, add-suc, suc-add, le-of-suc-le-suc, not-suc-le-zero}
 use native.Mathlib.Omega.{arith}
 use lib.Dec.{T, ltb, ltb→lt}
 use lib.ListN.{getD}
-use borrow.Author.Tests.{ne-eqb}
+use borrow.Author.Tests.{ne-eqb, ltb-true, ltb-false}
 use Rattle.laws.proofs.Bools.{and-left, and-right}
 use Rattle.grammar.specs.Bytes.{among}
 use Rattle.rules.specs.Codes.{Group, listedIn, notServed}
@@ -49,3 +49,11 @@ pub past : (n : ℕ) (gs : List Group) → T (allUnder n gs) → (code : ℕ) �
 past n [] t code h = refl
 past n ((g holds codes) ∷ gs) t code h =
     rw (not-among n code codes (and-left (under n codes) (allUnder n gs) t) h) (past n gs (and-right (under n codes) (allUnder n gs) t) code h)
+
+-- so what a filled table has for a code, or past its end, is the group that the code is listed in
+pub listed-by : (n : ℕ) (gs : List Group) → T (allUnder n gs) → (code : ℕ) → cond (ltb code n) (getD (filled (listedIn gs) 0 n) code 0) notServed ≡ listedIn gs code
+listed-by n gs t code = by (ltb code n) refl
+  where
+    by : (inside : Bool) → ltb code n ≡ inside → cond inside (getD (filled (listedIn gs) 0 n) code 0) notServed ≡ listedIn gs code
+    by true e = entry (listedIn gs) n code (ltb-true code n e)
+    by false e = sym (past n gs t code (ltb-false code n e))

@@ -1,13 +1,45 @@
 // The modal group of each G code.
 ghost use mathlib.Core.Path.{_≡_};
-ghost use Rattle.rules.specs.Codes.{gGroup};
+ghost use mathlib.Core.Bool.{cond, _&&_};
+ghost use lib.Dec.{eqb, ltb};
+ghost use lib.ListN.{getD};
+ghost use Rattle.rules.specs.Codes.{gGroup, notServed};
 
 // The group of a G code, held as ten times the code; 255 where the code is not served.
 pub fn g_group(code: u16) -> u8
     ensures { λ group. ⌜ group ≡ gGroup code ⌝ }
 {
+    let groups = GROUPS;
+    entry(&groups, code)
+}
+
+// Whether each mode of a record is a code of its group. All five are looked up in one table, since
+// laying it out costs more than a look.
+pub fn modes_served(motion: u16, plane: u16, distance: u16, units: u16, system: u16) -> bool
+    ensures { λ served. ⌜ served ≡ (eqb (gGroup motion) 1 && eqb (gGroup plane) 2 && eqb (gGroup distance) 3 && eqb (gGroup units) 6 && eqb (gGroup system) 12) ⌝ }
+{
+    let groups = GROUPS;
+    if entry(&groups, motion) != 1 {
+        return false;
+    }
+    if entry(&groups, plane) != 2 {
+        return false;
+    }
+    if entry(&groups, distance) != 3 {
+        return false;
+    }
+    if entry(&groups, units) != 6 {
+        return false;
+    }
+    entry(&groups, system) == 12
+}
+
+// What a table has for a code; past its end nothing is served.
+fn entry(groups: &[u8; 1000], code: u16) -> u8
+    ensures { λ group. ⌜ group ≡ cond (ltb code 1000) (getD (now (groups .entry)) code 0) notServed ⌝ }
+{
     if code < 1000 {
-        return GROUPS[code as usize];
+        return groups[code as usize];
     }
     255
 }

@@ -6,6 +6,7 @@ mod g_table;
 mod m_table;
 
 pub use g_table::g_group;
+pub use g_table::modes_served;
 pub use m_table::m_group;
 use rules::Code;
 use rules::Near;

@@ -31,8 +31,8 @@ use Rattle.rules.specs.declared.Answer.the-variants.{Accepted, Refused, Skipped
 use Rattle.reader.specs.Reading.{Spaces, stored, stopOf, outcome, Left, leaves, Reads}
 use Rattle.reader.specs.declared.line.Reading.{Reading}
 use Rattle.reader.specs.declared.line.Reading.the-variants.{Read}
-use Rattle.block.specs.Held.{said}
-use Rattle.block.specs.Execution.{allLettered, allRanged, unread, Done, done, doneBy, executed, execution}
+use Rattle.summary.specs.Words.{said, lettered}
+use Rattle.block.specs.Execution.{allInRange, Done, done, doneBy, executed, execution}
 use Rattle.control.specs.Worked.{settingsOf, tableAfter, finished, workedBy, worked}
 use Rattle.rules.proofs.Sound.{SoundTook, entries-sound}
 use Rattle.reader.proofs.Demand3.{line-counts}
@@ -47,7 +47,13 @@ length-map : {A B : Type 0} (g : A → B) (xs : List A) → length (map g xs) �
 length-map g [] = refl
 length-map g (x ∷ xs) = ap suc (length-map g xs)
 
-said-back : (ws : List Said) → said (map (λ (x : Said). x .letter) ws) (map (λ (x : Said). x .value) ws) ≡ ws
+abbrev lettersOf : List Said → List ℕ
+lettersOf ws = map (λ (x : Said). x .letter) ws
+
+abbrev valuesOf : List Said → List ℤ
+valuesOf ws = map (λ (x : Said). x .value) ws
+
+said-back : (ws : List Said) → said (lettersOf ws) (valuesOf ws) ≡ ws
 said-back [] = refl
 said-back (w ∷ ws) = ap (λ (l : List Said). w ∷ l) (said-back ws)
 
@@ -56,15 +62,11 @@ settings-back [] = refl
 settings-back (s ∷ ss) = ap (λ (l : List Setting). s ∷ l) (settings-back ss)
 
 -- ---- a derivation's words are words that a line gives
-in-range : (e : Took Entry) → SoundTook e → allRanged (words e) ≡ true
+in-range : (e : Took Entry) → SoundTook e → allInRange (valuesOf (words e)) ≡ true
 in-range end s = refl
 in-range (stopped n) s = refl
 in-range (took (wordIs b v) t) s = rw (s .0, in-range t (s .1))
 in-range (took (settingIs n v) t) s = in-range t s
-
-fit : (e : Took Entry) → allLettered (words e) ≡ true → SoundTook e → length (words e) ≤ 128 → unread (words e) ≡ 0
-unfolding unread
-fit e l s h = rw (le-ltb 128 (length (words e)) h, l, in-range e s)
 
 -- ---- where reading stopped
 stop-is : (e : Took Entry) (k : ℕ) → stopOf e ≡ some k → stoppedBy e ≡ k
@@ -149,18 +151,19 @@ module _ (line : List ℕ) (switch : Bool) (r : Record) (table out : List ℤ) (
       rw (ordered, le-ltb 256 (length line) short, unskipped, stop-is e k h) (stopped-by k (n .0) (n .1) (refusals (words e) b (ready b r) (length out)) e b r table out)
 
   -- a reading that came to the line's end
-  whole-answer : (e : Took Entry) → allLettered (words e) ≡ true → SoundTook e → length (words e) ≤ 128 → stopOf e ≡ none → answerTo (some e) line switch r table out ≡ finished (execution (words e) r out) (settings e) table
+  whole-answer : (e : Took Entry) → lettered (words e) ≡ words e → SoundTook e → stopOf e ≡ none →
+      answerTo (some e) line switch r table out ≡ finished (execution (lettersOf (words e)) (valuesOf (words e)) r out) (settings e) table
   unfolding answerTo execution executed
-  whole-answer e l s few h =
+  whole-answer e l s h =
       let b = blockOf (words e) in
       let cs = refusals (words e) b (ready b r) (length out) in
-      rw (ordered, le-ltb 256 (length line) short, unskipped, stop-none e h, in-order, fit e l s few)
+      rw (ordered, le-ltb 256 (length line) short, unskipped, stop-none e h, in-order, in-range e s, said-back (words e), l)
       (sym (finished-by (first cs) e b r table out (λ q. lacking 100 cs tt q)))
 
   module _ (old : Spaces) (roomWords : length (old .letters) ≡ 128) (roomValues : length (old .values) ≡ 128) (roomNumbers : length (old .numbers) ≡ 64) (roomAmounts : length (old .amounts) ≡ 64) where
     -- what was stored of a whole reading is worked as the reading itself
     stored-answer : (e : Took Entry) → length (words e) ≤ 128 → length (settings e) ≤ 64 → stopOf e ≡ none →
-        workedBy (outcome e) (stored e old) r table out ≡ finished (execution (words e) r out) (settings e) table
+        workedBy (outcome e) (stored e old) r table out ≡ finished (execution (lettersOf (words e)) (valuesOf (words e)) r out) (settings e) table
     stored-answer e w n h =
         let ws = words e in
         let ss = settings e in
@@ -168,20 +171,20 @@ module _ (line : List ℕ) (switch : Bool) (r : Record) (table out : List ℤ) (
         let b : take (length ws) (stored e old .values) ≡ map (λ (x : Said). x .value) ws = rw (← length-map (λ (x : Said). x .value) ws) (front (map (λ (x : Said). x .value) ws) (old .values) (omega (arith, length-map (λ (x : Said). x .value) ws))) in
         let c : take (length ss) (stored e old .numbers) ≡ map (λ (x : Setting). x .number) ss = rw (← length-map (λ (x : Setting). x .number) ss) (front (map (λ (x : Setting). x .number) ss) (old .numbers) (omega (arith, length-map (λ (x : Setting). x .number) ss))) in
         let d : take (length ss) (stored e old .amounts) ≡ map (λ (x : Setting). x .value) ss = rw (← length-map (λ (x : Setting). x .value) ss) (front (map (λ (x : Setting). x .value) ss) (old .amounts) (omega (arith, length-map (λ (x : Setting). x .value) ss))) in
-        rw (h, a, b, c, d, said-back ws, settings-back ss)
+        rw (h, a, b, c, d, settings-back ss)
 
     tree-answer : (t : Line) → Derives t line → worked (leaves table old t) r table out ≡ answer (some t) line switch r table out
     unfolding worked
     tree-answer (lineOf sl n is) d =
         let e = lineEntries (arithmetic table) (lineOf sl n is) in
-        let l : allLettered (words e) ≡ true = entries-lettered table is (d .ok .1) in
+        let l : lettered (words e) ≡ words e = entries-lettered table is (d .ok .1) in
         let s : SoundTook e = entries-sound table is in
         let c = line-counts table (lineOf sl n is) in
         let k = few d short in
         go e l s (omega (arith, c .0, k .0)) (omega (arith, c .1, k .1)) (stopOf e) refl
       where
-        go : (e : Took Entry) → allLettered (words e) ≡ true → SoundTook e → length (words e) ≤ 128 → length (settings e) ≤ 64 → (o : Option ℕ) → stopOf e ≡ o → workedBy (outcome e) (stored e old) r table out ≡ answerTo (some e) line switch r table out
-        go e l s w n none h = stored-answer e w n h ∙ sym (whole-answer e l s w h)
+        go : (e : Took Entry) → lettered (words e) ≡ words e → SoundTook e → length (words e) ≤ 128 → length (settings e) ≤ 64 → (o : Option ℕ) → stopOf e ≡ o → workedBy (outcome e) (stored e old) r table out ≡ answerTo (some e) line switch r table out
+        go e l s w n none h = stored-answer e w n h ∙ sym (whole-answer e l s h)
         go e l s w n (some k) h = rw h (sym (stopped-answer e s k h))
 
     -- the promise, from any result that is worked from what the reader left
@@ -194,7 +197,7 @@ module _ (line : List ℕ) (switch : Bool) (r : Record) (table out : List ℤ) (
 
     -- read to its end, and worked
     pub kept-read : {w n : ℕ} {lent : Spaces} → Reads line table old (Read w n) lent → {o : Outcome} {table′ out′ : List ℤ} →
-        record { outcome = o; out = out′ } ≡ execution (said (take w (lent .letters)) (take w (lent .values))) r out →
+        record { outcome = o; out = out′ } ≡ execution (take w (lent .letters)) (take w (lent .values)) r out →
         table′ ≡ tableAfter (o .answer) (settingsOf (take n (lent .numbers)) (take n (lent .amounts))) table → Right line switch r table out (after o table′ out′)
     kept-read {w} {n} {lent} p {o} {table′} {out′} e h =
         kept p (ap (λ (t : List ℤ). after o t out′) h ∙ ap (λ (d : Done). finished d (settingsOf (take n (lent .numbers)) (take n (lent .amounts))) table) e)

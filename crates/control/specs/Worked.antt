@@ -12,7 +12,6 @@ use Rattle.rules.specs.declared.Answer.the-variants.{Accepted, Refused, Skipped
 use Rattle.reader.specs.Reading.{Spaces, Left}
 use Rattle.reader.specs.declared.line.Reading.{Reading}
 use Rattle.reader.specs.declared.line.Reading.the-variants.{Read, Stopped, Wrong, TooLong}
-use Rattle.block.specs.Held.{said}
 use Rattle.block.specs.Execution.{Done, execution}
 
 -- settings by their parameter numbers and their values, side by side
@@ -33,7 +32,7 @@ finished d ss table = after (d .outcome) (tableAfter (d .outcome .answer) ss tab
 -- by what the reader answers and what the lent spaces hold
 abbrev pub workedBy : Reading → Spaces → Record → List ℤ → List ℤ → After
 workedBy (Read w n) sp r table out =
-    finished (execution (said (take w (sp .letters)) (take w (sp .values))) r out) (settingsOf (take n (sp .numbers)) (take n (sp .amounts))) table
+    finished (execution (take w (sp .letters)) (take w (sp .values)) r out) (settingsOf (take n (sp .numbers)) (take n (sp .amounts))) table
 workedBy (Stopped k) sp r table out = leaving (Refused k) r table out
 workedBy (Wrong p) sp r table out = leaving (Refused 3) r table out
 workedBy TooLong sp r table out = leaving (Refused 2) r table out

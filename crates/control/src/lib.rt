@@ -4,7 +4,6 @@ ghost use mathlib.Core.Bool.{false, _&&_};
 ghost use Prim.Native.Nat.{_≤_};
 ghost use lib.ListN.{length, take, set};
 ghost use Rattle.rules.specs.Promise.{Right, after, leaving, apply, disorder, slashed};
-ghost use Rattle.block.specs.Held.{said};
 ghost use Rattle.block.specs.Execution.{execution};
 ghost use Rattle.rules.specs.declared.Answer.the-variants.{Refused};
 ghost use Rattle.control.specs.Worked.{settingsOf, tableAfter};
@@ -138,7 +137,7 @@ fn finish(
     table: &mut [i64],
     out: &mut [i64],
 ) -> Outcome
-    ensures { λ r. ⌜ (record { outcome = r; out = now (out .exit) } ≡ execution (said (take words (now (letters .entry))) (take words (now (values .entry)))) rec (now (out .entry))) × (now (table .exit) ≡ tableAfter (r .answer) (settingsOf (take settings (now (numbers .entry))) (take settings (now (amounts .entry)))) (now (table .entry))) ⌝ }
+    ensures { λ r. ⌜ (record { outcome = r; out = now (out .exit) } ≡ execution (take words (now (letters .entry))) (take words (now (values .entry))) rec (now (out .entry))) × (now (table .exit) ≡ tableAfter (r .answer) (settingsOf (take settings (now (numbers .entry))) (take settings (now (amounts .entry)))) (now (table .entry))) ⌝ }
 {
     let outcome = block::execute(letters, values, words, rec, out);
     let answer = outcome.answer;

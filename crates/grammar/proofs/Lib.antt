@@ -11,3 +11,5 @@ pub mod OnePass
 pub mod Fuel
 pub mod Place
 pub mod Items
+pub mod Viable
+pub mod Local

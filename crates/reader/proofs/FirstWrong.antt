@@ -14,8 +14,8 @@ use Rattle.grammar.proofs.Read.{Read, fail, got, readLine}
 use Rattle.grammar.proofs.LineBack.{line-back}
 use Rattle.grammar.proofs.Fuel.{shorter}
 use Rattle.reader.specs.Underived.{RightBeginning, FirstWrong}
-use Rattle.reader.proofs.Viable.{Stops, goes, past, line-stops}
-use Rattle.reader.proofs.Local.{line-local}
+use Rattle.grammar.proofs.Viable.{Stops, goes, past, line-stops}
+use Rattle.grammar.proofs.Local.{line-local}
 
 -- ---- there is one such place
 

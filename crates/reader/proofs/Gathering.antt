@@ -1,6 +1,7 @@
 -- The loops over the items: what is left to read makes of what is stored so far what the whole makes of what was there at first.
 -- Assumes nothing.
 use mathlib.Core.Path.{_≡_, refl, sym, ap, ap₂, _∙_}
+use mathlib.Core.Bool.{Bool, true, false}
 use mathlib.Core.List.{List}
 use Prim.Native.Nat.{ℕ, suc, _+_, _-_, _*_, _≤_, _<_}
 use native.Mathlib.Omega.{arith}
@@ -15,7 +16,7 @@ use Rattle.rules.specs.declared.Value.{Value}
 use Rattle.reader.specs.Pass.{pass}
 use Rattle.reader.specs.Places.{itemAt}
 use Rattle.reader.specs.Reading.{Spaces, spaces, zeros, storedFrom, stored, stopOf, counted, Left, left}
-use Rattle.reader.specs.Gather.{checked, refused, leftBy, tidied}
+use Rattle.reader.specs.Gather.{checked, refused, ended, leftBy, tidied}
 use Rattle.reader.specs.declared.items.Item.the-variants.{Wrong, End}
 use Rattle.reader.specs.declared.line.Checked.{Checked}
 use Rattle.reader.specs.declared.line.Checked.the-variants.{Right, Wrong as Broken}
@@ -160,3 +161,47 @@ module _ (t : List ℤ) (s : List ℕ) (at : ℕ) (old : Spaces) where
         ap (λ (x : Reading). left x sp) (ap₂ Whole h j)
         ∙ ap (λ (m : Placed (Took Entry)). leftFrom w n m sp) (sym (items-end (pass t) s i (past-end t s i e)))
         ∙ q .same
+
+-- ---- the same loop past a refusal
+
+-- an item before i was refused with number k, and nothing is stored from there on: the answer hangs on the form of the rest alone
+pub record Stopping (t : List ℤ) (s : List ℕ) (at : ℕ) (old sp : Spaces) (k i : ℕ) : Type 0 where
+  pub past : ℕ
+  pub form : Checking t s past i
+  pub gives : {c : Checked} {r : Reading} → c ≡ checked (itemsP (pass t) s past) → r ≡ refused k c → tidied r sp ≡ leftBy (itemsP (pass t) s at) old
+
+-- the items before i are read: none of them was refused, or one was
+pub data Gathered (t : List ℤ) (s : List ℕ) (at : ℕ) (old sp : Spaces) (w n k i : ℕ) : Bool → Type 0 where
+  going : Gathering t s at old sp w n i → Gathered t s at old sp w n k i false
+  stopping : Stopping t s at old sp k i → Gathered t s at old sp w n k i true
+
+module _ (t : List ℤ) (s : List ℕ) (at : ℕ) (old sp : Spaces) {w n i : ℕ} where
+  pub going-on : {k : ℕ} {c : Bool} → c ≡ false → Gathering t s at old sp w n i → Gathered t s at old sp w n k i c
+  going-on e q = rw e (going q)
+
+  pub stop-now : Gathering t s at old sp w n i → {k p : ℕ} → Passed t s i (stop k) p → Gathered t s at old sp w n k p true
+  stop-now q {k} {p} h = stopping (record { past = p; form = check-none t s p (passed-on t s h .1); gives = λ d e. gather-stop t s at old sp q h d e })
+
+  module _ {k : ℕ} where
+    stop-more : Stopping t s at old sp k i → {st : Step Entry} {p : ℕ} → Passed t s i st p → Gathered t s at old sp w n k p true
+    stop-more q h = stopping (record { past = q .past; form = check-more t s (q .past) (q .form) h; gives = q .gives })
+
+    pub not-stopped : {c : Bool} → c ≡ false → Gathered t s at old sp w n k i c → Gathering t s at old sp w n i
+    not-stopped e (going q) = q
+    not-stopped e (stopping q) = absurd (let z : _≡_ {A = ℕ} 0 1 = cc in omega arith)
+
+    pub still-stopped : {c : Bool} → c ≡ true → Gathered t s at old sp w n k i c → {st : Step Entry} {p : ℕ} → Passed t s i st p → Gathered t s at old sp w n k p c
+    still-stopped e (going q) h = absurd (let z : _≡_ {A = ℕ} 0 1 = cc in omega arith)
+    still-stopped e (stopping q) h = stop-more q h
+
+    pub past-comment : {c : Bool} → Gathered t s at old sp w n k i c → {p : ℕ} → Passed t s i skip p → Gathered t s at old sp w n k p c
+    past-comment (going q) h = going (gather-comment t s at old sp q h)
+    past-comment (stopping q) h = stop-more q h
+
+    pub at-wrong-form : {c : Bool} → Gathered t s at old sp w n k i c → {p : ℕ} → Wrong p ≡ itemAt t s i → tidied (NoForm p) sp ≡ leftBy (itemsP (pass t) s at) old
+    at-wrong-form (going q) e = gather-wrong t s at old sp q e
+    at-wrong-form (stopping q) e = q .gives (check-wrong t s (q .past) (q .form) e) refl
+
+    pub at-end : {c : Bool} → Gathered t s at old sp w n k i c → End ≡ itemAt t s i → tidied (ended c k w n) sp ≡ leftBy (itemsP (pass t) s at) old
+    at-end (going q) e = gather-end t s at old sp q e
+    at-end (stopping q) e = q .gives (check-end t s (q .past) (q .form) e) refl

@@ -9,8 +9,6 @@ pub mod Passing
 pub mod Gathering
 pub mod Beginning
 pub mod Guarding
-pub mod Viable
-pub mod Local
 pub mod FirstWrong
 pub mod Reading
 pub mod Stops

@@ -8,7 +8,7 @@ use native.Mathlib.Omega.{arith}
 use native.Mathlib.Decide.{decLe, ℕ-discrete}
 use native.Mathlib.Nat.{lt-of-not-le, le-mul-of-pos-right, one-le-pow}
 use borrow.Author.Tests.{eq-eqb, ne-eqb, le-leb, lt-leb}
-use lib.Dec.{eqb, leb, ltb, lit<}
+use lib.Dec.{eqb, ltb, lit<}
 use lib.IntN.{pos, negℤ, natAbs}
 use lib.ListN.{length, drop, getD, length-drop, length-append, drop-of-length-le}
 use lib.Seq.{drop-drop, drop-at}
@@ -227,8 +227,5 @@ module _ (b : ℕ) (x : b ≡ 43 → ⊥) (y : b ≡ 45 → ⊥) (z : b ≡ 46 �
   sure true = refl
   sure false = rw (ne-eqb 43 b (λ e. x (sym e)), ne-eqb 45 b (λ e. y (sym e)), ne-eqb 46 b (λ e. z (sym e)))
 
-  pub numeric-low : 48 ≤ b → leb b 57 ≡ numeric b
-  numeric-low h = sym (rw (le-leb 48 b h) (sure (leb b 57)))
-
-  pub numeric-high : b < 48 → leb 48 b ≡ numeric b
-  numeric-high h = rw (lt-leb 48 b h) (sym (sure false))
+  pub not-numeric : digit b ≡ false → false ≡ numeric b
+  not-numeric e = sym (sure (digit b) ∙ e)

@@ -1,5 +1,6 @@
 -- The items of a prepared line one after another, from what the grammar's reader by places says. No public contract cites it.
 -- Assumes nothing.
+use mathlib.Core.Bool.{Bool, cond}
 use Prim.Native.Nat.{ℕ}
 use Rattle.grammar.specs.Working.{Took}
 use Rattle.grammar.proofs.Place.{Placed, wrong, found}
@@ -19,6 +20,10 @@ checked (found e p) = Right
 abbrev pub refused : ℕ → Checked → Reading
 refused n Right = Stopped n
 refused n (Broken p) = Wrong p
+
+-- the answer at the end of a line of right form
+abbrev pub ended : Bool → ℕ → ℕ → ℕ → Reading
+ended stopped k w n = cond stopped (Stopped k) (Whole w n)
 
 -- what a pass over items leaves
 abbrev pub leftBy : Placed (Took Entry) → Spaces → Left

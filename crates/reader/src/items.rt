@@ -48,10 +48,13 @@ fn is_letter(b: u8) -> bool
     }
 }
 
-// Whether a byte may stand inside a comment.
+// Whether a byte may stand inside a comment. One test of a range tells it for most.
 fn is_remark(b: u8) -> bool
     ensures { λ r. ⌜ r ≡ remark b ⌝ }
 {
+    if b')' < b && b <= 126 {
+        return true;
+    }
     match b {
         b'\t' => true,
         b'(' => false,

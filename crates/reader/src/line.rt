@@ -8,7 +8,7 @@ ghost use Rattle.grammar.proofs.Items.{itemsP, labelP, lineP};
 ghost use Rattle.rules.specs.Promise.{panel};
 ghost use Rattle.reader.specs.Pass.{pass};
 ghost use Rattle.reader.specs.Places.{labelEnd, slashEnd};
-ghost use Rattle.reader.specs.Gather.{checked, refused, leftBy, tidied};
+ghost use Rattle.reader.specs.Gather.{checked, ended, leftBy, tidied};
 ghost use Rattle.reader.specs.Reading.{spaces, zeros, Reads};
 use super::cursor::item_from;
 use super::items::Item;
@@ -98,16 +98,6 @@ fn check_from(text: &[u8], table: &[i64], at: usize) -> Checked
     }
 }
 
-// A refused line, once its form is known: a wrong form comes first.
-fn refused(number: u8, form: Checked) -> Reading
-    ensures { λ r. ⌜ r ≡ refused number form ⌝ }
-{
-    match form {
-        Checked::Right => Reading::Stopped(number),
-        Checked::Wrong(p) => Reading::Wrong(p),
-    }
-}
-
 fn store_word(letters: &mut [u8; 128], values: &mut [i64; 128], n: usize, letter: u8, value: Value)
     requires { ⌜ n < 128 ⌝ }
     ensures { λ r. ⌜ (now (letters .exit) ≡ set (now (letters .entry)) n letter) × (now (values .exit) ≡ set (now (values .entry)) n (value .0)) ⌝ }
@@ -132,7 +122,18 @@ fn store_setting(
     amounts[n] = amount;
 }
 
+// The answer at the end of a line of right form.
+fn ended(stopped: bool, number: u8, words: usize, settings: usize) -> Reading
+    ensures { λ r. ⌜ r ≡ ended stopped number words settings ⌝ }
+{
+    if stopped {
+        return Reading::Stopped(number);
+    }
+    Reading::Read(words, settings)
+}
+
 // Reads the items from here on, and stores their words and settings up to the first that is refused.
+// The form of those after it is read in the same loop, so that the compiler puts the items' code into it.
 fn gather(
     text: &[u8],
     table: &[i64],
@@ -147,31 +148,35 @@ fn gather(
 {
     let mut words: usize = 0;
     let mut settings: usize = 0;
+    let mut stopped = false;
+    let mut number: u8 = 0;
     let mut i = at;
     loop {
         match item_from(text, table, i) {
             Item::Word(letter, value, next) => {
-                store_word(letters, values, words, letter, value);
-                words += 1;
                 i = next;
+                if !stopped {
+                    store_word(letters, values, words, letter, value);
+                    words += 1;
+                }
             }
-            Item::Setting(number, value, next) => {
-                store_setting(numbers, amounts, settings, number, value);
-                settings += 1;
+            Item::Setting(parameter, value, next) => {
                 i = next;
+                if !stopped {
+                    store_setting(numbers, amounts, settings, parameter, value);
+                    settings += 1;
+                }
             }
-            Item::Comment(next) => {
-                i = next;
-            }
+            Item::Comment(next) => i = next,
             Item::Stop(n, next) => {
-                return refused(n, check_from(text, table, next));
+                i = next;
+                if !stopped {
+                    stopped = true;
+                    number = n;
+                }
             }
-            Item::Wrong(p) => {
-                return Reading::Wrong(p);
-            }
-            Item::End => {
-                return Reading::Read(words, settings);
-            }
+            Item::Wrong(p) => return Reading::Wrong(p),
+            Item::End => return ended(stopped, number, words, settings),
         }
     }
 }

@@ -21,14 +21,18 @@ pub(crate) struct Digits {
     pub(crate) next: usize,
 }
 
+// Whether a byte may begin a number. Most begin with a digit, so that is asked first.
 fn is_numeric(b: u8) -> bool
     ensures { λ r. ⌜ r ≡ numeric b ⌝ }
 {
+    if b'0' <= b && b <= b'9' {
+        return true;
+    }
     match b {
         b'+' => true,
         b'-' => true,
         b'.' => true,
-        _ => b'0' <= b && b <= b'9',
+        _ => false,
     }
 }
 

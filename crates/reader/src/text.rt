@@ -1,9 +1,10 @@
 // A line as the grammar takes it: outside comments spaces and tabs are dropped and letters raised to
 // upper case; a comment, from `(` to the first `)`, is kept as it is.
 ghost use mathlib.Core.Path.{_≡_};
+ghost use Prim.Native.Nat.{_≤_};
 ghost use lib.ListN.{length};
 ghost use Rattle.grammar.specs.Derivation.{blank, raise};
-ghost use Rattle.reader.specs.Prepare.{keeps, asKept, stays, bytesOf, prepared};
+ghost use Rattle.reader.specs.Prepare.{plain, Copied, bytesOf, prepared};
 
 // How many bytes the prepared line has, where there was room for the line.
 pub(crate) enum Prepared {
@@ -33,25 +34,30 @@ fn raised(b: u8) -> u8
     b - 32
 }
 
-// Whether a byte is kept.
-fn keeps(inside: bool, b: u8) -> bool
-    ensures { λ r. ⌜ r ≡ keeps inside b ⌝ }
+// Whether a byte is kept as it is and opens no comment, as most are: one test of a range.
+fn is_plain(b: u8) -> bool
+    ensures { λ r. ⌜ r ≡ plain b ⌝ }
 {
-    if inside { true } else { !is_blank(b) }
+    b'(' < b && b < b'a'
 }
 
-// What is kept of it.
-fn as_kept(inside: bool, b: u8) -> u8
-    ensures { λ r. ⌜ r ≡ asKept inside b ⌝ }
+// Copies a comment from past its `(`, up to its `)` or to the line's end, and tells the place past it.
+fn copy_comment(line: &[u8], at: usize, text: &mut [u8], to: usize) -> usize
+    requires { ⌜ (to ≤ at) × (at ≤ length (now line)) × (length (now line) ≤ length (now text)) ⌝ }
+    ensures { λ r. ⌜ Copied (now (line .entry)) (now (text .entry)) (now (text .exit)) to at r ⌝ }
 {
-    if inside { b } else { raised(b) }
-}
-
-// Whether the byte after it stands in a comment.
-fn stays(inside: bool, b: u8) -> bool
-    ensures { λ r. ⌜ r ≡ stays inside b ⌝ }
-{
-    if inside { b != b')' } else { b == b'(' }
+    let mut n = to;
+    let mut i = at;
+    while i < line.len() {
+        let b = line[i];
+        i += 1;
+        text[n] = b;
+        n += 1;
+        if b == b')' {
+            return i;
+        }
+    }
+    i
 }
 
 // Prepares the line into the text, whose bytes past it stay as they were. A line is too long where it
@@ -64,14 +70,23 @@ pub(crate) fn prepare(line: &[u8], text: &mut [u8]) -> Prepared
     }
     let mut n: usize = 0;
     let mut i: usize = 0;
-    let mut inside = false;
     while i < line.len() {
         let b = line[i];
-        i += 1;
-        if keeps(inside, b) {
-            text[n] = as_kept(inside, b);
+        if is_plain(b) {
+            text[n] = b;
             n += 1;
-            inside = stays(inside, b);
+            i += 1;
+        } else if b == b'(' {
+            text[n] = b;
+            let next = copy_comment(line, i + 1, text, n + 1);
+            n += next - i;
+            i = next;
+        } else if !is_blank(b) {
+            text[n] = raised(b);
+            n += 1;
+            i += 1;
+        } else {
+            i += 1;
         }
     }
     Prepared::Bytes(n)

@@ -1,8 +1,7 @@
 // The session's record: as it is at the start, and whether every field is in its range.
 ghost use mathlib.Core.Path.{_≡_};
 ghost use mathlib.Core.Bool.{_&&_};
-ghost use lib.Dec.{eqb, leb};
-ghost use Rattle.rules.specs.Codes.{gGroup};
+ghost use lib.Dec.{leb};
 ghost use Rattle.rules.specs.Reach.{inReach, upTo, inOrder, fresh};
 use rules::Length;
 use rules::Record;
@@ -42,7 +41,7 @@ pub fn in_order(r: Record) -> bool
     if !quantities_in_range(r.feed, r.speed, r.tool, r.spindle, r.coolant) {
         return false;
     }
-    modes_served(r.motion, r.plane, r.distance, r.units, r.system)
+    codes::modes_served(r.motion, r.plane, r.distance, r.units, r.system)
 }
 
 // Whether a place is in reach on every axis.
@@ -51,7 +50,7 @@ pub fn in_reach(place: [Length; 3]) -> bool
 {
     let mut axis = 0;
     while axis < 3 {
-        if !value::in_reach(place[axis]) {
+        if !lengths::in_reach(place[axis]) {
             return false;
         }
         axis += 1;
@@ -64,7 +63,7 @@ fn origins_in_reach(origins: [Length; 27]) -> bool
 {
     let mut i = 0;
     while i < 27 {
-        if !value::in_reach(origins[i]) {
+        if !lengths::in_reach(origins[i]) {
             return false;
         }
         i += 1;
@@ -120,23 +119,4 @@ fn speed_in_range(speed: Value) -> bool
         return false;
     }
     turns <= 999_999_999
-}
-
-// Whether each mode is a code of its group: the table of codes is asked, as for a line's codes.
-fn modes_served(motion: u16, plane: u16, distance: u16, units: u16, system: u16) -> bool
-    ensures { λ served. ⌜ served ≡ (eqb (gGroup motion) 1 && eqb (gGroup plane) 2 && eqb (gGroup distance) 3 && eqb (gGroup units) 6 && eqb (gGroup system) 12) ⌝ }
-{
-    if codes::g_group(motion) != 1 {
-        return false;
-    }
-    if codes::g_group(plane) != 2 {
-        return false;
-    }
-    if codes::g_group(distance) != 3 {
-        return false;
-    }
-    if codes::g_group(units) != 6 {
-        return false;
-    }
-    codes::g_group(system) == 12
 }

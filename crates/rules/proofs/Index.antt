@@ -7,6 +7,8 @@ use mathlib.Core.List.{List, [], _∷_, _++_, map}
 use mathlib.Core.Logic.{_↔_}
 use Prim.Native.Nat.{ℕ, zero, suc, _+_, _-_, _*_, _≤_, _<_}
 use native.Mathlib.Omega.{arith}
+use lib.ListN.{length, set, List·getD-eq-default}
+use lib.Seq.{set-out}
 use lib.Dec.{T, eqb, leb, eqb→eq, eqb-refl, T-not, leb→le}
 use lib.IntN.{ℤ, pos, negsuc, natAbs, _-ℤ_, _*ℤ_}
 use borrow.Author.Tests.{le-leb, leb-true, leb-false}
@@ -16,7 +18,9 @@ use Rattle.grammar.specs.Bytes.{among, all}
 use Rattle.rules.specs.Numbers.{nearest, near, within, between, counted}
 use Rattle.rules.specs.Codes.{Group, _holds_, notServed, listedIn, systems, gGroups, mGroups, gGroup, mGroup, noCode, codeUpTo, gCode, mCode, further, placeIn, systemNumber}
 use Rattle.rules.specs.Block.{twice}
+use Rattle.rules.specs.Reach.{nowhere, at}
 use Rattle.rules.specs.Steps.{originPlace}
+use Rattle.rules.specs.declared.Length.{Length}
 use Rattle.rules.specs.declared.Near.{Near}
 use Rattle.rules.specs.declared.Near.the-variants.{To, Nothing}
 use Rattle.rules.specs.declared.Code.{Code}
@@ -240,10 +244,48 @@ pub system-one : (c d : ℕ) → gGroup c ≡ 12 → gGroup d ≡ 12 → systemN
 unfolding systemNumber
 system-one c d p q e = place-one systems c d (system-listed c p) (system-listed d q) e
 
--- and no two systems share a place among the origins
+-- where the origin of a system stands
+pub place-is : (n i : ℕ) → 0 < n → originPlace n i ≡ 3 * (n - 1) + i
+place-is zero i h = absurd (omega arith)
+place-is (suc n) i h = omega arith
+
+-- a place in a list is at most its length
+place-within : (xs : List ℕ) (code : ℕ) → placeIn xs code ≤ length xs
+place-within [] code = omega arith
+place-within (x ∷ xs) code = go (eqb code x) (placeIn xs code) (place-within xs code)
+  where
+    go : (c : Bool) (n : ℕ) → n ≤ length xs → cond c 1 (further n) ≤ suc (length xs)
+    go true n h = omega arith
+    go false zero h = omega arith
+    go false (suc n) h = omega arith
+
+pub system-within : (code : ℕ) → systemNumber code ≤ 9
+unfolding systemNumber
+system-within code = place-within systems code
+
+-- no two systems share a place among the origins
 pub origin-one : (c d i j : ℕ) → gGroup c ≡ 12 → gGroup d ≡ 12 → i < 3 → j < 3 → originPlace (systemNumber c) i ≡ originPlace (systemNumber d) j → (c ≡ d) × (i ≡ j)
 unfolding systemNumber
 origin-one c d i j p q l m e =
     let a = place-positive systems c (system-listed c p) in
     let b = place-positive systems d (system-listed d q) in
+    let x = place-is (systemNumber c) i a in
+    let y = place-is (systemNumber d) j b in
     (system-one c d p q (omega arith), omega arith)
+
+-- and a code that is no system shares none with any: its number 0 has no origin
+pub no-origin : (d i j : ℕ) → gGroup d ≡ 12 → j < 3 → originPlace 0 i ≡ originPlace (systemNumber d) j → ⊥
+unfolding systemNumber
+no-origin d i j q m e =
+    let b = place-positive systems d (system-listed d q) in
+    let y = place-is (systemNumber d) j b in
+    let w = system-within d in
+    omega arith
+
+-- nothing is read there, and nothing can be set
+module _ (os : List Length) (i : ℕ) (all : length os ≡ 27) where
+  pub nothing-read : at os (originPlace 0 i) ≡ nowhere
+  nothing-read = List·getD-eq-default os nowhere (omega arith)
+
+  pub nothing-set : (l : Length) → set os (originPlace 0 i) l ≡ os
+  nothing-set l = set-out os (originPlace 0 i) l (omega arith)

@@ -2,12 +2,12 @@
 -- Assumes nothing.
 use mathlib.Core.Bool.{Bool, true, false, cond, _&&_, _||_}
 use mathlib.Core.List.{List, [], _∷_, map}
-use Prim.Native.Nat.{ℕ, _+_, _-_, _*_}
+use Prim.Native.Nat.{ℕ, zero, suc, _+_, _*_}
 use lib.Dec.{eqb}
 use lib.ListN.{length, set}
 use lib.IntN.{ℤ, pos}
 use Rattle.rules.specs.Numbers.{whole, counted}
-use Rattle.rules.specs.Codes.{systemNumber}
+use Rattle.rules.specs.Codes.{systems, systemNumber}
 use Rattle.rules.specs.Block.{axis, allAxes, has, hasOne, orElse, moves, setsOrigin, machine, setsOffset, zeroesOffset}
 use Rattle.rules.specs.Reach.{converted, _plus_, _less_, nowhere, at}
 use Rattle.rules.specs.With.{withPosition, withOrigins, withOffset, withMotion, withPlane, withDistance, withUnits, withSystem, withFeed, withSpeed, withTool, withSpindle, withCoolant}
@@ -69,9 +69,11 @@ distanceStep b r = withDistance (orElse (b .distance) (r .distance)) r
 abbrev pub long : Record → Word → Length
 long r w = converted (r .units) (w .value)
 
--- where axis i of system n (1–9) stands among the origins
+-- where axis i of system n (1–9) stands among the origins. Number 0 is no system and has no origin: its place lies past the last,
+-- where nothing is read and nothing can be set
 abbrev pub originPlace : ℕ → ℕ → ℕ
-originPlace n i = length allAxes * (n - 1) + i
+originPlace zero i = length systems * length allAxes + i
+originPlace (suc n) i = length allAxes * n + i
 
 -- the origin of system n; axis i of the origin in force
 abbrev pub originOf : Record → ℕ → List Length

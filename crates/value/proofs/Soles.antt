@@ -9,14 +9,9 @@ use Rattle.value.proofs.parameter as parameter
 use Rattle.value.proofs.whole as whole
 use Rattle.value.proofs.tenth as tenth
 use Rattle.value.proofs.number as number
-use Rattle.value.proofs.convert as convert
 use Rattle.value.proofs.is_below_zero as belowZero
 use Rattle.value.proofs.in_range as inRange
-use Rattle.value.proofs.extent as extent
-use Rattle.value.proofs.is_zero_length as isZeroLength
-use Rattle.value.proofs.in_reach as inReach
-use Rattle.value.proofs.add as add
-use Rattle.value.proofs.subtract as subtract
+use Rattle.value.proofs.signs.size_of as sizeOf
 
 pub work-sole : Sole work.ended (λ M. work.clauses)
 work-sole = record { says = _; is = λ M 𝓤 H A m n κs a g r e. refl; one = λ κs a r r′ ws ws′ p q. (alike p q, refl) }
@@ -39,26 +34,11 @@ tenth-sole = record { says = _; is = λ M 𝓤 H A m n κs a g r e. refl; one = 
 pub number-sole : Sole number.ended (λ M. number.clauses)
 number-sole = record { says = _; is = λ M 𝓤 H A m n κs a g r e. refl; one = λ κs a r r′ ws ws′ p q. (alike p q, refl) }
 
-pub convert-sole : Sole convert.ended (λ M. convert.clauses)
-convert-sole = record { says = _; is = λ M 𝓤 H A m n κs a g r e. refl; one = λ κs a r r′ ws ws′ p q. (alike p q, refl) }
-
 pub is-below-zero-sole : Sole belowZero.ended (λ M. belowZero.clauses)
 is-below-zero-sole = record { says = _; is = λ M 𝓤 H A m n κs a g r e. refl; one = λ κs a r r′ ws ws′ p q. (alike p q, refl) }
 
 pub in-range-sole : Sole inRange.ended (λ M. inRange.clauses)
 in-range-sole = record { says = _; is = λ M 𝓤 H A m n κs a g r e. refl; one = λ κs a r r′ ws ws′ p q. (alike p q, refl) }
 
-pub extent-sole : Sole extent.ended (λ M. extent.clauses)
-extent-sole = record { says = _; is = λ M 𝓤 H A m n κs a g r e. refl; one = λ κs a r r′ ws ws′ p q. (alike p q, refl) }
-
-pub is-zero-length-sole : Sole isZeroLength.ended (λ M. isZeroLength.clauses)
-is-zero-length-sole = record { says = _; is = λ M 𝓤 H A m n κs a g r e. refl; one = λ κs a r r′ ws ws′ p q. (alike p q, refl) }
-
-pub in-reach-sole : Sole inReach.ended (λ M. inReach.clauses)
-in-reach-sole = record { says = _; is = λ M 𝓤 H A m n κs a g r e. refl; one = λ κs a r r′ ws ws′ p q. (alike p q, refl) }
-
-pub add-sole : Sole add.ended (λ M. add.clauses)
-add-sole = record { says = _; is = λ M 𝓤 H A m n κs a g r e. refl; one = λ κs a r r′ ws ws′ p q. (alike p q, refl) }
-
-pub subtract-sole : Sole subtract.ended (λ M. subtract.clauses)
-subtract-sole = record { says = _; is = λ M 𝓤 H A m n κs a g r e. refl; one = λ κs a r r′ ws ws′ p q. (alike p q, refl) }
+pub size-of-sole : Sole sizeOf.ended (λ M. sizeOf.clauses)
+size-of-sole = record { says = _; is = λ M 𝓤 H A m n κs a g r e. refl; one = λ κs a r r′ ws ws′ p q. (alike p q, refl) }

@@ -1,5 +1,5 @@
 -- What the functions of this crate answer. Where `rules` says it of every number they say the same; what is added here is an answer for arguments
--- that reading a line never makes: a value out of range, and lengths whose sum does not fit 64 bits.
+-- that reading a line never makes: a value out of range.
 -- Assumes nothing.
 use mathlib.Core.Bool.{Bool, cond}
 use mathlib.Core.List.{List}
@@ -9,12 +9,9 @@ use lib.IntN.{ℤ}
 use Rattle.grammar.specs.declared.Op.{Op}
 use Rattle.grammar.specs.declared.Func.{Func}
 use Rattle.laws.proofs.Ints.{Within}
-use Rattle.rules.specs.Numbers.{minus, signed, within, inRange, residueSize}
+use Rattle.rules.specs.Numbers.{residueSize}
 use Rattle.rules.specs.Meaning.{ranged, operation, function, parameterOf, entry, then}
-use Rattle.rules.specs.Reach.{counts, converted}
 use Rattle.rules.specs.Arcs.{apart}
-use Rattle.rules.specs.declared.Value.{Value}
-use Rattle.rules.specs.declared.Length.{Length}
 use Rattle.rules.specs.declared.Worked.{Worked}
 use Rattle.rules.specs.declared.Worked.the-variants.{Good, Bad}
 
@@ -36,24 +33,6 @@ apply f a = then (kept a) (function f)
 -- `#` and a value: the entry that it names
 abbrev pub lookup : List ℤ → Worked → Worked
 lookup table a = then (kept a) (λ v. entry table (parameterOf v))
-
--- ---- lengths
-
--- the most counts that 64 bits hold both above zero and below it
-abbrev pub most : ℕ
-most = 9223372036854775807
-
--- the farthest length of a sign, beyond every reach
-abbrev pub farthest : Bool → Length
-farthest negative = counts (signed negative most)
-
--- so many counts, or the farthest length of their sign where 64 bits do not hold them
-unfoldable pub saturated : ℤ → Length
-saturated z = cond (within most z) (counts z) (farthest (minus z))
-
--- the G20/G21 conversion of a value; one out of range goes to the farthest length of its sign
-unfoldable pub conversion : ℕ → Value → Length
-conversion units v = cond (inRange (v .0)) (converted units v) (farthest (minus (v .0)))
 
 -- ---- by sign and size, for the functions inside the crate
 

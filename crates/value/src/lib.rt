@@ -1,6 +1,6 @@
-// The arithmetic of document 01: values worked out, named parameters, numbers as written, the
-// G20/G21 conversion, and what is asked of values and lengths. No other crate does arithmetic on a
-// value or a length. Every public function answers for every argument.
+// The arithmetic of document 01's values: worked out, named parameters, numbers as written, and what is
+// asked of values. No other crate does arithmetic on a value. Every public function answers for every
+// argument.
 mod functions;
 mod operations;
 mod rounding;
@@ -9,25 +9,23 @@ mod signs;
 ghost use mathlib.Core.Path.{_≡_};
 ghost use Prim.Native.Nat.{_-_, _^_};
 ghost use lib.Dec.{eqb};
-ghost use lib.IntN.{pos, natAbs, _+ℤ_, _-ℤ_};
+ghost use lib.IntN.{pos, natAbs};
 ghost use lib.ListN.{getD};
-ghost use Rattle.rules.specs.Numbers.{minus, within, inRange, whole, tenth};
+ghost use Rattle.rules.specs.Numbers.{minus, inRange, whole, tenth};
 ghost use Rattle.rules.specs.Meaning.{ranged, written, parameterOf, entry};
-ghost use Rattle.rules.specs.Reach.{converted};
-ghost use Rattle.value.specs.Guarded.{kept, work, apply, lookup, farthest, saturated, conversion, Ranged};
+ghost use Rattle.value.specs.Guarded.{kept, work, apply, lookup};
 use functions::function;
 use grammar::Func;
 use grammar::Op;
 use operations::operation;
 use rounding::near_steps;
-use rules::Length;
 use rules::Near;
 use rules::Parameter;
 use rules::Value;
 use rules::Worked;
 use signs::ranged_signed;
 use signs::size;
-use signs::size_of;
+pub use signs::size_of;
 
 // An operator with its two sides. The left side's refusal comes first.
 pub fn work(op: Op, a: Worked, b: Worked) -> Worked
@@ -109,18 +107,6 @@ pub fn number(negative: bool, digits: u64, decimals: usize) -> Worked
     ranged_signed(negative, digits * last_place(decimals))
 }
 
-// The G20/G21 conversion, the only way from a value to a length. A value out of range goes beyond
-// every reach, so that whoever asks for the reach refuses it.
-pub fn convert(units: u16, v: Value) -> Length
-    ensures { λ r. ⌜ r ≡ conversion units v ⌝ }
-{
-    if in_range(v) {
-        converted(units, v)
-    } else {
-        farthest(is_below_zero(v))
-    }
-}
-
 pub fn is_below_zero(v: Value) -> bool
     ensures { λ r. ⌜ r ≡ minus (v .0) ⌝ }
 {
@@ -131,61 +117,6 @@ pub fn in_range(v: Value) -> bool
     ensures { λ r. ⌜ r ≡ inRange (v .0) ⌝ }
 {
     size(v) <= 999_999_999
-}
-
-// How many counts long, whatever the sign.
-pub fn extent(l: Length) -> u64
-    ensures { λ r. ⌜ r ≡ natAbs (l .0) ⌝ }
-{
-    size_of(l.0)
-}
-
-pub fn is_zero_length(l: Length) -> bool
-    ensures { λ r. ⌜ r ≡ eqb (natAbs (l .0)) 0 ⌝ }
-{
-    extent(l) == 0
-}
-
-pub fn in_reach(l: Length) -> bool
-    ensures { λ r. ⌜ r ≡ within 1000000000 (l .0) ⌝ }
-{
-    extent(l) <= 1_000_000_000
-}
-
-// The sum of two lengths, or the farthest length of its sign.
-pub fn add(a: Length, b: Length) -> Length
-    ensures { λ r. ⌜ r ≡ saturated (a .0 +ℤ b .0) ⌝ }
-{
-    let x = a.0;
-    let y = b.0;
-    if 0 < y {
-        if 9_223_372_036_854_775_807 - y < x {
-            return farthest(false);
-        }
-        return Length(x + y);
-    }
-    if x < -9_223_372_036_854_775_807 - y {
-        return farthest(true);
-    }
-    Length(x + y)
-}
-
-// The difference of two lengths, or the farthest length of its sign.
-pub fn subtract(a: Length, b: Length) -> Length
-    ensures { λ r. ⌜ r ≡ saturated (a .0 -ℤ b .0) ⌝ }
-{
-    let x = a.0;
-    let y = b.0;
-    if y < 0 {
-        if 9_223_372_036_854_775_807 + y < x {
-            return farthest(false);
-        }
-        return Length(x - y);
-    }
-    if x < -9_223_372_036_854_775_807 + y {
-        return farthest(true);
-    }
-    Length(x - y)
 }
 
 // The value itself, where it is in range.
@@ -239,26 +170,5 @@ fn last_place(decimals: usize) -> u64
         2 => 100,
         3 => 10,
         _ => 1,
-    }
-}
-
-fn converted(units: u16, v: Value) -> Length
-    requires { ⌜ Ranged (v .0) ⌝ }
-    ensures { λ r. ⌜ r ≡ converted units v ⌝ }
-{
-    if units == 200 {
-        Length(v.0 * 254)
-    } else {
-        Length(v.0 * 10)
-    }
-}
-
-fn farthest(negative: bool) -> Length
-    ensures { λ r. ⌜ r ≡ farthest negative ⌝ }
-{
-    if negative {
-        Length(-9_223_372_036_854_775_807)
-    } else {
-        Length(9_223_372_036_854_775_807)
     }
 }

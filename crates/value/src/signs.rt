@@ -8,7 +8,7 @@ use rules::Value;
 use rules::Worked;
 
 // How far a number is from zero. The least i64 has a size too, so it is not negated as an i64.
-pub(crate) fn size_of(z: i64) -> u64
+pub fn size_of(z: i64) -> u64
     ensures { λ r. ⌜ r ≡ natAbs z ⌝ }
 {
     if z < 0 { (-1 - z) as u64 + 1 } else { z as u64 }

@@ -7,11 +7,8 @@ use borrow.Author.Needs.{needs}
 use Rattle.arcs.proofs.in_span.Tie as tie
 use Rattle.arcs.proofs.in_span.Statement.{statement}
 
-extent-requires : tie.Need-extent-requires
-extent-requires c κs = search needs
-
 returns : tie.Need-returns
 returns c = ap (λ (n : ℕ). leb n 2000000000) (c .extent .ensures)
 
 pub in-span-spec : {M : Type 1} → statement M
-in-span-spec = tie.close (tie.spec extent-requires returns)
+in-span-spec = tie.close (tie.spec (λ c κs. search needs) returns)

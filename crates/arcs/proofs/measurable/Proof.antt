@@ -8,20 +8,8 @@ use Rattle.arcs.proofs.Ways.{measurable-pair}
 use Rattle.arcs.proofs.measurable.Tie as tie
 use Rattle.arcs.proofs.measurable.Statement.{statement}
 
-array-copy-out-in-span : tie.Need-array-copy-out-in-span
-array-copy-out-in-span c = search needs
-
-in-span-requires : tie.Need-in-span-requires
-in-span-requires c κs = search needs
-
 returns : tie.Need-returns
 returns c = rw (measurable-pair (c .before .before .before .args .t1) (search needs), sym (c .before .in-span .ensures) ∙ not-true (c .before .in-span .result) (c .if1 .taken)) refl
-
-array-copy-out-in-span-2 : tie.Need-array-copy-out-in-span-2
-array-copy-out-in-span-2 c = search needs
-
-in-span-requires-2 : tie.Need-in-span-requires-2
-in-span-requires-2 c κs = search needs
 
 returns-2 : tie.Need-returns-2
 returns-2 c = rw (measurable-pair (c .before .before .before .before .before .args .t1) (search needs), sym (c .before .before .before .in-span .ensures) ∙ not-false (c .before .before .before .in-span .result) (c .before .before .if1 .left), sym (c .in-span2 .ensures)) (sym (and-true (c .in-span2 .result)))
@@ -30,9 +18,9 @@ pub measurable-spec : {M : Type 1} → statement M
 measurable-spec =
     tie.close
     (tie.spec
-    array-copy-out-in-span
-    in-span-requires
+    (λ c. search needs)
+    (λ c κs. search needs)
     returns
-    array-copy-out-in-span-2
-    in-span-requires-2
+    (λ c. search needs)
+    (λ c κs. search needs)
     returns-2)

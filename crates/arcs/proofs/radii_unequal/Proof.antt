@@ -7,15 +7,9 @@ use Rattle.arcs.specs.Ways.{tooUnequal}
 use Rattle.arcs.proofs.radii_unequal.Tie as tie
 use Rattle.arcs.proofs.radii_unequal.Statement.{statement}
 
-measurable-requires : tie.Need-measurable-requires
-measurable-requires c κs = search needs
-
 returns : tie.Need-returns
 unfolding tooUnequal
 returns c = rw (sym (c .before .measurable .ensures) ∙ not-true (c .before .measurable .result) (c .if1 .taken)) refl
-
-measurable-requires-2 : tie.Need-measurable-requires-2
-measurable-requires-2 c κs = search needs
 
 returns-2 : tie.Need-returns-2
 unfolding tooUnequal
@@ -27,9 +21,6 @@ radius-requires c κs = sym (c .before .before .before .measurable .ensures) ∙
 radius-requires-2 : tie.Need-radius-requires-2
 radius-requires-2 c κs = sym (c .before .before .measurable2 .ensures) ∙ not-false (c .before .before .measurable2 .result) (c .before .if2 .left)
 
-apart-requires : tie.Need-apart-requires
-apart-requires c κs = search needs
-
 returns-3 : tie.Need-returns-3
 unfolding tooUnequal
 returns-3 c = rw (sym (c .before .before .before .before .before .before .measurable .ensures) ∙ not-false (c .before .before .before .before .before .before .measurable .result) (c .before .before .before .before .before .if1 .left), sym (c .before .before .before .before .measurable2 .ensures) ∙ not-false (c .before .before .before .before .measurable2 .result) (c .before .before .before .if2 .left), c .apart .ensures, c .before .before .radius .ensures, c .before .radius2 .ensures) refl
@@ -38,11 +29,11 @@ pub radii-unequal-spec : {M : Type 1} → statement M
 radii-unequal-spec =
     tie.close
     (tie.spec
-    measurable-requires
+    (λ c κs. search needs)
     returns
-    measurable-requires-2
+    (λ c κs. search needs)
     returns-2
     radius-requires
     radius-requires-2
-    apart-requires
+    (λ c κs. search needs)
     returns-3)

@@ -9,23 +9,14 @@ use Rattle.arcs.proofs.Ways.{sum-small, summed-pair, first-in-span, sec
 use Rattle.arcs.proofs.radius.Tie as tie
 use Rattle.arcs.proofs.radius.Statement.{statement}
 
-array-copy-out-square : tie.Need-array-copy-out-square
-array-copy-out-square c = search needs
-
 square-requires : tie.Need-square-requires
 square-requires c κs = first-in-span (c .before .args .t1) (search needs) (c .before .pre)
-
-array-copy-out-square-2 : tie.Need-array-copy-out-square-2
-array-copy-out-square-2 c = search needs
 
 square-requires-2 : tie.Need-square-requires-2
 square-requires-2 c κs = second-in-span (c .before .before .before .args .t1) (search needs) (c .before .before .before .pre)
 
 add-root : tie.Need-add-root
 add-root c = omega (arith, c .before .before .square .ensures, c .square2 .ensures, sum-small (c .before .before .before .before .args .t1) (search needs) (c .before .before .before .before .pre))
-
-root-requires : tie.Need-root-requires
-root-requires c κs = search needs
 
 returns : tie.Need-returns
 returns c = c .root .ensures ∙ ap root (ap₂ _+_ (c .before .before .before .square .ensures) (c .before .square2 .ensures) ∙ sym (summed-pair (c .before .before .before .before .before .args .t1) (search needs)))
@@ -34,10 +25,10 @@ pub radius-spec : {M : Type 1} → statement M
 radius-spec =
     tie.close
     (tie.spec
-    array-copy-out-square
+    (λ c. search needs)
     square-requires
-    array-copy-out-square-2
+    (λ c. search needs)
     square-requires-2
     add-root
-    root-requires
+    (λ c κs. search needs)
     returns)

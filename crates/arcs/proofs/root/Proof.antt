@@ -52,32 +52,14 @@ Inv-loop n r₀ bit₀ r bit = Near n r bit
 abbrev μ-loop : tie.MeasureT-loop
 μ-loop n r₀ bit₀ r bit = bit
 
-loop-holds : tie.Need-loop-holds Inv-loop μ-loop
-loop-holds c = omega arith
-
-sub-bit : tie.Need-sub-bit Inv-loop μ-loop
-sub-bit c = omega arith
-
-cast-larger : tie.Need-cast-larger Inv-loop μ-loop
-cast-larger c = omega arith
-
-shl-larger : tie.Need-shl-larger Inv-loop μ-loop
-shl-larger c = omega arith
-
 add-larger : tie.Need-add-larger Inv-loop μ-loop
 add-larger c = let l = c .before in omega (arith, larger-lt (l .before .args .n) (l .loop .r) (l .loop .bit) (l .loop .inv) (c .loop-test .taken))
 
 mul-if1 : tie.Need-mul-if1 Inv-loop μ-loop
 mul-if1 c = let l = c .before in record { fits = square-fits (l .before .args .n) (l .loop .r) (l .loop .bit) (l .loop .inv) (c .loop-test .taken) }
 
-loop-less : tie.Need-loop-less Inv-loop μ-loop
-loop-less c = omega arith
-
 loop-again : tie.Need-loop-again Inv-loop μ-loop
 loop-again c = let l = c .before .before in taken (l .before .args .n) (l .loop .r) (l .loop .bit) (l .loop .inv) (c .before .loop-test .taken) (omega (arith, c .if1 .taken))
-
-loop-less-2 : tie.Need-loop-less-2 Inv-loop μ-loop
-loop-less-2 c = omega arith
 
 loop-again-2 : tie.Need-loop-again-2 Inv-loop μ-loop
 loop-again-2 c = let l = c .before .before in left (l .before .args .n) (l .loop .r) (l .loop .bit) (l .loop .inv) (c .before .loop-test .taken) (omega (arith, c .if1 .left))
@@ -96,14 +78,14 @@ root-spec =
     (tie.spec
     Inv-loop
     μ-loop
-    loop-holds
-    sub-bit
-    cast-larger
-    shl-larger
+    (λ c. omega arith)
+    (λ c. omega arith)
+    (λ c. omega arith)
+    (λ c. omega arith)
     add-larger
     mul-if1
-    loop-less
+    (λ c. omega arith)
     loop-again
-    loop-less-2
+    (λ c. omega arith)
     loop-again-2
     returns)

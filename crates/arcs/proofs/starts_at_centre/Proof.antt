@@ -10,20 +10,8 @@ use Rattle.arcs.proofs.Ways.{summed-pair, some-way, no-way}
 use Rattle.arcs.proofs.starts_at_centre.Tie as tie
 use Rattle.arcs.proofs.starts_at_centre.Statement.{statement}
 
-array-copy-out-is-zero-length : tie.Need-array-copy-out-is-zero-length
-array-copy-out-is-zero-length c = search needs
-
-is-zero-length-requires : tie.Need-is-zero-length-requires
-is-zero-length-requires c κs = search needs
-
 returns : tie.Need-returns
 returns c = rw (summed-pair (c .before .before .before .args .t1) (search needs), some-way (natAbs (getD (c .before .before .before .args .t1) 0 nowhere .0)) (natAbs (getD (c .before .before .before .args .t1) 1 nowhere .0)) (sym (c .before .is-zero-length .ensures) ∙ not-true (c .before .is-zero-length .result) (c .if1 .taken))) refl
-
-array-copy-out-is-zero-length-2 : tie.Need-array-copy-out-is-zero-length-2
-array-copy-out-is-zero-length-2 c = search needs
-
-is-zero-length-requires-2 : tie.Need-is-zero-length-requires-2
-is-zero-length-requires-2 c κs = search needs
 
 returns-2 : tie.Need-returns-2
 returns-2 c = rw (summed-pair (c .before .before .before .before .before .args .t1) (search needs), no-way (natAbs (getD (c .before .before .before .before .before .args .t1) 0 nowhere .0)) (natAbs (getD (c .before .before .before .before .before .args .t1) 1 nowhere .0)) (sym (c .before .before .before .is-zero-length .ensures) ∙ not-false (c .before .before .before .is-zero-length .result) (c .before .before .if1 .left))) (c .is-zero-length2 .ensures)
@@ -32,9 +20,9 @@ pub starts-at-centre-spec : {M : Type 1} → statement M
 starts-at-centre-spec =
     tie.close
     (tie.spec
-    array-copy-out-is-zero-length
-    is-zero-length-requires
+    (λ c. search needs)
+    (λ c κs. search needs)
     returns
-    array-copy-out-is-zero-length-2
-    is-zero-length-requires-2
+    (λ c. search needs)
+    (λ c κs. search needs)
     returns-2)

@@ -39,23 +39,8 @@ fresh-requires c κs = tt
 loop-holds : tie.Need-loop-holds Inv-loop μ-loop
 loop-holds c = (omega arith, refl, refl, refl, refl)
 
-sub-feed : tie.Need-sub-feed Inv-loop μ-loop
-sub-feed c = omega arith
-
-part-feed-start : tie.Need-part-feed-start Inv-loop μ-loop
-part-feed-start c = omega arith
-
-part-feed-end : tie.Need-part-feed-end Inv-loop μ-loop
-part-feed-end c = omega arith
-
 feed-requires : tie.Need-feed-requires Inv-loop μ-loop
 feed-requires c κs = tt
-
-sub-write-all : tie.Need-sub-write-all Inv-loop μ-loop
-sub-write-all c = omega arith
-
-part-write-all-start : tie.Need-part-write-all-start Inv-loop μ-loop
-part-write-all-start c = omega arith
 
 part-write-all-end : tie.Need-part-write-all-end Inv-loop μ-loop
 part-write-all-end c =
@@ -66,21 +51,6 @@ part-write-all-end c =
 
 write-all-requires : tie.Need-write-all-requires Inv-loop μ-loop
 write-all-requires c κs = tt
-
-same-length : tie.Need-same-length Inv-loop μ-loop
-same-length c = omega arith
-
-same-length-2 : tie.Need-same-length-2 Inv-loop μ-loop
-same-length-2 c = omega arith
-
-same-length-3 : tie.Need-same-length-3 Inv-loop μ-loop
-same-length-3 c = omega arith
-
-same-length-4 : tie.Need-same-length-4 Inv-loop μ-loop
-same-length-4 c = omega arith
-
-returns : tie.Need-returns Inv-loop μ-loop
-returns c = omega arith
 
 add-taken : tie.Need-add-taken Inv-loop μ-loop
 add-taken c =
@@ -109,21 +79,6 @@ loop-again c =
     let e = within (c .before .before .before .before .before .before .before .before .before .before .before .before .before .before .before .before .before .before .before .before .before .before .before .before .args .s .now) (x .taken) (stand (x .state) (x .line) (x .table) (x .out) (x .text) 0) refl (x .inv .0) w in
     (omega (arith, e .0), omega arith, omega arith, omega arith, omega arith)
 
-same-length-5 : tie.Need-same-length-5 Inv-loop μ-loop
-same-length-5 c = omega arith
-
-same-length-6 : tie.Need-same-length-6 Inv-loop μ-loop
-same-length-6 c = omega arith
-
-same-length-7 : tie.Need-same-length-7 Inv-loop μ-loop
-same-length-7 c = omega arith
-
-same-length-8 : tie.Need-same-length-8 Inv-loop μ-loop
-same-length-8 c = omega arith
-
-returns-2 : tie.Need-returns-2 Inv-loop μ-loop
-returns-2 c = omega arith
-
 pub work-part-spec : {M : Type 1} → statement M
 work-part-spec =
     tie.close
@@ -132,25 +87,25 @@ work-part-spec =
     μ-loop
     fresh-requires
     loop-holds
-    sub-feed
-    part-feed-start
-    part-feed-end
+    (λ c. omega arith)
+    (λ c. omega arith)
+    (λ c. omega arith)
     feed-requires
-    sub-write-all
-    part-write-all-start
+    (λ c. omega arith)
+    (λ c. omega arith)
     part-write-all-end
     write-all-requires
-    same-length
-    same-length-2
-    same-length-3
-    same-length-4
-    returns
+    (λ c. omega arith)
+    (λ c. omega arith)
+    (λ c. omega arith)
+    (λ c. omega arith)
+    (λ c. omega arith)
     add-taken
     resume-requires
     loop-less
     loop-again
-    same-length-5
-    same-length-6
-    same-length-7
-    same-length-8
-    returns-2)
+    (λ c. omega arith)
+    (λ c. omega arith)
+    (λ c. omega arith)
+    (λ c. omega arith)
+    (λ c. omega arith))

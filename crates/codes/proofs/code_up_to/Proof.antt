@@ -10,12 +10,6 @@ use Rattle.codes.proofs.code_up_to.Lts as lts
 use Rattle.codes.proofs.no_code.Reads as no-code-reads
 use Rattle.codes.proofs.code_up_to.Statement.{statement}
 
-enum-known-near : tie.Need-enum-known-near
-enum-known-near c = search needs
-
-no-code-requires : tie.Need-no-code-requires
-no-code-requires c κs = search needs
-
 -- the number that the value counts as
 counts : (c : lts.After-known-told (no-code-reads.Asked, no-code-reads.Learnt) reads.Pre reads.Post) → Counts (c .before .before .before .args .near) (c .before .near .given .0 .0)
 counts c = record { sized = record { sfits = c .known-told .given .0 .1 }; is = c .before .near .given .1 }
@@ -23,42 +17,27 @@ counts c = record { sized = record { sfits = c .known-told .given .0 .1 }; is = 
 returns : tie.Need-returns
 returns c = c .no-code .ensures ∙ none-below (counts (c .before .before)) (c .before .before .before .before .before .args .last) (omega arith) (c .before .if1 .taken)
 
-cast-if2 : tie.Need-cast-if2
-cast-if2 c = search needs
-
-no-code-requires-2 : tie.Need-no-code-requires-2
-no-code-requires-2 c κs = search needs
-
 returns-2 : tie.Need-returns-2
 returns-2 c = c .no-code2 .ensures ∙ none-above (counts (c .before .before .before)) (c .before .before .before .before .before .before .args .last) (omega arith) (c .before .if2 .taken)
 
 cast-t7 : tie.Need-cast-t7
 cast-t7 c = code-fits (counts (c .before .before)) (c .before .before .before .before .before .args .last) (omega arith) (c .before .if1 .left) (c .if2 .left)
 
-enum-told : tie.Need-enum-told
-enum-told c = search needs
-
-no-code-requires-3 : tie.Need-no-code-requires-3
-no-code-requires-3 c κs = search needs
-
 returns-3 : tie.Need-returns-3
 returns-3 c = code-is (counts (c .before .before)) (c .before .before .before .before .before .args .last) (omega arith) (c .before .if1 .left) (c .if2 .left)
-
-returns-4 : tie.Need-returns-4
-returns-4 c = search needs
 
 pub code-up-to-spec : {M : Type 1} → statement M
 code-up-to-spec =
     tie.close
     (tie.spec
-    enum-known-near
-    no-code-requires
+    (λ c. search needs)
+    (λ c κs. search needs)
     returns
-    cast-if2
-    no-code-requires-2
+    (λ c. search needs)
+    (λ c κs. search needs)
     returns-2
     cast-t7
-    enum-told
-    no-code-requires-3
+    (λ c. search needs)
+    (λ c κs. search needs)
     returns-3
-    returns-4)
+    (λ c. search needs))

@@ -6,15 +6,9 @@ use Rattle.rules.specs.Codes.{gCode, codeUpTo}
 use Rattle.codes.proofs.g_code.Tie as tie
 use Rattle.codes.proofs.g_code.Statement.{statement}
 
-tenth-requires : tie.Need-tenth-requires
-tenth-requires c κs = search needs
-
-code-up-to-requires : tie.Need-code-up-to-requires
-code-up-to-requires c κs = search needs
-
 returns : tie.Need-returns
 unfolding gCode
 returns c = c .code-up-to .ensures ∙ ap (codeUpTo 999) (c .before .tenth .ensures)
 
 pub g-code-spec : {M : Type 1} → statement M
-g-code-spec = tie.close (tie.spec tenth-requires code-up-to-requires returns)
+g-code-spec = tie.close (tie.spec (λ c κs. search needs) (λ c κs. search needs) returns)

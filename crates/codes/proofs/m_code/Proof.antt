@@ -6,15 +6,9 @@ use Rattle.rules.specs.Codes.{mCode, codeUpTo}
 use Rattle.codes.proofs.m_code.Tie as tie
 use Rattle.codes.proofs.m_code.Statement.{statement}
 
-whole-requires : tie.Need-whole-requires
-whole-requires c κs = search needs
-
-code-up-to-requires : tie.Need-code-up-to-requires
-code-up-to-requires c κs = search needs
-
 returns : tie.Need-returns
 unfolding mCode
 returns c = c .code-up-to .ensures ∙ ap (codeUpTo 99) (c .before .whole .ensures)
 
 pub m-code-spec : {M : Type 1} → statement M
-m-code-spec = tie.close (tie.spec whole-requires code-up-to-requires returns)
+m-code-spec = tie.close (tie.spec (λ c κs. search needs) (λ c κs. search needs) returns)

@@ -8,9 +8,6 @@ use Rattle.control.proofs.out_of_order.Reads as reads
 use Rattle.control.proofs.out_of_order.Lts as lts
 use Rattle.record.proofs.in_order.Reads as in-order-reads
 
-in-order-requires : tie.Need-in-order-requires
-in-order-requires c κs = search needs
-
 returns : tie.Need-returns
 unfolding disorder
 returns c = rw (eq-eqb _ _ (c .before .before .if1 .taken), sym (c .before .in-order .ensures) ∙ c .if2 .taken)
@@ -24,4 +21,4 @@ unfolding disorder
 returns-3 c = rw (ne-eqb _ _ (c .if1 .left))
 
 pub out-of-order-spec : {M : Type 1} → statement M
-out-of-order-spec = tie.close (tie.spec in-order-requires returns returns-2 returns-3)
+out-of-order-spec = tie.close (tie.spec (λ c κs. search needs) returns returns-2 returns-3)

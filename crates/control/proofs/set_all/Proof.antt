@@ -31,44 +31,17 @@ abbrev μ-loop : tie.MeasureT-loop
 loop-holds : tie.Need-loop-holds Inv-loop μ-loop
 loop-holds c = (omega arith, refl, ap (λ (ss : List Setting). apply ss (c .before .args .table .now)) (sym (onward-all (c .before .args .numbers .now) (c .before .args .amounts .now) (c .before .args .count))))
 
-same-length : tie.Need-same-length Inv-loop μ-loop
-same-length c = omega arith
-
 returns : tie.Need-returns Inv-loop μ-loop
 returns c = let ns = c .before .before .before .before .args .numbers .now in let as′ = c .before .before .before .before .args .amounts .now in let k = c .before .before .before .before .args .count in let i = c .before .before .loop .i in sym (c .before .before .loop .inv .2 ∙ ap (λ (ss : List Setting). apply ss (c .before .before .loop .table)) (onward-no-number ns as′ k i (omega arith)))
-
-same-length-2 : tie.Need-same-length-2 Inv-loop μ-loop
-same-length-2 c = omega arith
 
 returns-2 : tie.Need-returns-2 Inv-loop μ-loop
 returns-2 c = let ns = c .before .before .before .before .before .args .numbers .now in let as′ = c .before .before .before .before .before .args .amounts .now in let k = c .before .before .before .before .before .args .count in let i = c .before .before .before .loop .i in sym (c .before .before .before .loop .inv .2 ∙ ap (λ (ss : List Setting). apply ss (c .before .before .before .loop .table)) (onward-no-amount ns as′ k i (omega arith)))
 
-mul-set-entry : tie.Need-mul-set-entry Inv-loop μ-loop
-mul-set-entry c = omega arith
-
-shared-slice-read-set-entry : tie.Need-shared-slice-read-set-entry Inv-loop μ-loop
-shared-slice-read-set-entry c = omega arith
-
-mul-t11 : tie.Need-mul-t11 Inv-loop μ-loop
-mul-t11 c = omega arith
-
-shared-slice-copy-out-t13 : tie.Need-shared-slice-copy-out-t13 Inv-loop μ-loop
-shared-slice-copy-out-t13 c = omega arith
-
 set-entry-requires : tie.Need-set-entry-requires Inv-loop μ-loop
 set-entry-requires c κs = tt
 
-add-i : tie.Need-add-i Inv-loop μ-loop
-add-i c = omega arith
-
-loop-less : tie.Need-loop-less Inv-loop μ-loop
-loop-less c = omega arith
-
 loop-again : tie.Need-loop-again Inv-loop μ-loop
 loop-again c = let ns = c .before .before .before .before .before .before .before .before .before .before .args .numbers .now in let as′ = c .before .before .before .before .before .before .before .before .before .before .args .amounts .now in let k = c .before .before .before .before .before .before .before .before .before .before .args .count in let i = c .before .before .before .before .before .before .before .before .loop .i in (omega arith, ap length (c .before .set-entry .ensures) ∙ simp length-set (c .before .before .before .before .before .before .before .before .loop .inv .1), c .before .before .before .before .before .before .before .before .loop .inv .2 ∙ onward-applied ns as′ k i (omega arith) (omega arith) (omega arith) (c .before .before .before .before .before .before .before .before .loop .table) (rw (toZ-ofZ w64 (getD as′ i (pos 0)) (search needs)) at (c .before .set-entry .ensures)))
-
-same-length-3 : tie.Need-same-length-3 Inv-loop μ-loop
-same-length-3 c = omega arith
 
 returns-3 : tie.Need-returns-3 Inv-loop μ-loop
 returns-3 c = let ns = c .before .before .before .args .numbers .now in let as′ = c .before .before .before .args .amounts .now in let k = c .before .before .before .args .count in let i = c .before .loop .i in sym (c .before .loop .inv .2 ∙ ap (λ (ss : List Setting). apply ss (c .before .loop .table)) (onward-done ns as′ k i (omega arith)))
@@ -80,17 +53,17 @@ set-all-spec =
     Inv-loop
     μ-loop
     loop-holds
-    same-length
+    (λ c. omega arith)
     returns
-    same-length-2
+    (λ c. omega arith)
     returns-2
-    mul-set-entry
-    shared-slice-read-set-entry
-    mul-t11
-    shared-slice-copy-out-t13
+    (λ c. omega arith)
+    (λ c. omega arith)
+    (λ c. omega arith)
+    (λ c. omega arith)
     set-entry-requires
-    add-i
-    loop-less
+    (λ c. omega arith)
+    (λ c. omega arith)
     loop-again
-    same-length-3
+    (λ c. omega arith)
     returns-3)

@@ -9,17 +9,5 @@ use Rattle.control.proofs.set_entry.Lts as lts
 returns : tie.Need-returns
 returns c = sym (set-past (c .before .args .table .now) (c .before .args .number) (c .before .args .amount .0) (c .if1 .taken))
 
-mul-v : tie.Need-mul-v
-mul-v c = search needs
-
-slice-set-from-v : tie.Need-slice-set-from-v
-slice-set-from-v c = search needs
-
-same-length : tie.Need-same-length
-same-length c = search needs
-
-returns-2 : tie.Need-returns-2
-returns-2 c = search needs
-
 pub set-entry-spec : {M : Type 1} → statement M
-set-entry-spec = tie.close (tie.spec returns mul-v slice-set-from-v same-length returns-2)
+set-entry-spec = tie.close (tie.spec returns (λ c. search needs) (λ c. search needs) (λ c. search needs) (λ c. search needs))

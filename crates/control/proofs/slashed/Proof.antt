@@ -18,17 +18,8 @@ abbrev μ-loop : tie.MeasureT-loop
 loop-holds : tie.Need-loop-holds Inv-loop μ-loop
 loop-holds c = (omega arith, refl)
 
-shared-slice-read-match : tie.Need-shared-slice-read-match Inv-loop μ-loop
-shared-slice-read-match c = omega arith
-
 returns : tie.Need-returns Inv-loop μ-loop
 returns c = let s = c .before .before .before .before .args .line .now in let i = c .before .before .before .loop .i in sym (c .before .before .before .loop .inv .1 ∙ past-blank s i (omega arith) (c .match .rest .1))
-
-add-i : tie.Need-add-i Inv-loop μ-loop
-add-i c = omega arith
-
-loop-less : tie.Need-loop-less Inv-loop μ-loop
-loop-less c = omega arith
 
 loop-again : tie.Need-loop-again Inv-loop μ-loop
 loop-again c = let s = c .before .before .before .before .args .line .now in let i = c .before .before .before .loop .i in (omega arith, c .before .before .before .loop .inv .1 ∙ blank-on s i (omega arith) (c .match .keys1))
@@ -43,9 +34,9 @@ slashed-spec =
     Inv-loop
     μ-loop
     loop-holds
-    shared-slice-read-match
+    (λ c. omega arith)
     returns
-    add-i
-    loop-less
+    (λ c. omega arith)
+    (λ c. omega arith)
     loop-again
     returns-2)

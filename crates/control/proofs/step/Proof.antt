@@ -1,4 +1,4 @@
--- `right::step` meets its contract: a walk of its MIR, by hand. The borrow of the record is opened once, its value is copied whole to `interpret`, which is called at the slices' own lifetimes, shares and names, and the record that comes back is stored whole before the borrow is closed.
+-- `control::step` meets its contract: a walk of its MIR, by hand. The borrow of the record is opened once, its value is copied whole to `interpret`, which is called at the slices' own lifetimes, shares and names, and the record that comes back is stored whole before the borrow is closed.
 -- No line names a field of the record or a case of the answer: a change of either leaves this file as it is.
 -- Assumes nothing.
 use mathlib.Core.Path.{_≡_, refl, ap}

@@ -1,4 +1,4 @@
--- `right::work` meets its contract: a walk of its MIR, by hand. The record is the function's own: its local is lent to `step` for a lifetime that is made for the call, and is had again at the last value that `step` says.
+-- `control::work` meets its contract: a walk of its MIR, by hand. The record is the function's own: its local is lent to `step` for a lifetime that is made for the call, and is had again at the last value that `step` says.
 -- No line names a field of the record or a case of the answer: a change of either leaves this file as it is.
 -- Assumes nothing.
 use mathlib.Core.Path.{_≡_, refl, ap}

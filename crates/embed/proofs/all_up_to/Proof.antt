@@ -18,18 +18,6 @@ Inv-loop high all i₀ i-end i = (i ≤ i-end) × (i-end ≡ length all) × (all
 abbrev μ-loop : tie.MeasureT-loop
 μ-loop high all i₀ i-end i = i-end - i
 
-loop-holds : tie.Need-loop-holds Inv-loop μ-loop
-loop-holds c = search needs
-
-mul-up-to : tie.Need-mul-up-to Inv-loop μ-loop
-mul-up-to c = search needs
-
-shared-slice-copy-out-up-to : tie.Need-shared-slice-copy-out-up-to Inv-loop μ-loop
-shared-slice-copy-out-up-to c = search needs
-
-up-to-requires : tie.Need-up-to-requires Inv-loop μ-loop
-up-to-requires c κs = search needs
-
 returns : tie.Need-returns Inv-loop μ-loop
 returns c =
     let loop = c .before .before .before .before in
@@ -38,12 +26,6 @@ returns c =
     let i = loop .loop .i in
     let test = read-up-to high (getD all i (pos 0)) (c .before .before .up-to-arg .given) (c .before .up-to .ensures) in
     sym (loop .loop .inv .2 ∙ held-not high all i (omega arith) (failed test (c .if1 .taken)))
-
-add-i : tie.Need-add-i Inv-loop μ-loop
-add-i c = search needs
-
-loop-less : tie.Need-loop-less Inv-loop μ-loop
-loop-less c = search needs
 
 loop-again : tie.Need-loop-again Inv-loop μ-loop
 loop-again c =
@@ -68,12 +50,12 @@ all-up-to-spec =
     (tie.spec
     Inv-loop
     μ-loop
-    loop-holds
-    mul-up-to
-    shared-slice-copy-out-up-to
-    up-to-requires
+    (λ c. search needs)
+    (λ c. search needs)
+    (λ c. search needs)
+    (λ c κs. search needs)
     returns
-    add-i
-    loop-less
+    (λ c. search needs)
+    (λ c. search needs)
     loop-again
     returns-2)

@@ -6,15 +6,6 @@ use Rattle.embed.specs.Packing.{answered}
 use Rattle.embed.proofs.answered.Statement.{statement}
 use Rattle.embed.proofs.answered.Tie as tie
 
-enum-known-answer : tie.Need-enum-known-answer
-enum-known-answer c = search needs
-
-enum-known-answer-2 : tie.Need-enum-known-answer-2
-enum-known-answer-2 c = search needs
-
-cast-t5 : tie.Need-cast-t5
-cast-t5 c = search needs
-
 enum-told : tie.Need-enum-told
 enum-told c = search needs
 
@@ -30,4 +21,4 @@ returns-3 c = ap answered (sym (c .enum-told .given .1))
 pub answered-spec : {M : Type 1} → statement M
 answered-spec =
     tie.close
-    (tie.spec enum-known-answer enum-known-answer-2 cast-t5 enum-told returns returns-2 returns-3)
+    (tie.spec (λ c. search needs) (λ c. search needs) (λ c. search needs) enum-told returns returns-2 returns-3)

@@ -10,12 +10,6 @@ use Rattle.embed.proofs.Held.{cast-held}
 use Rattle.embed.proofs.mode_at.Statement.{statement}
 use Rattle.embed.proofs.mode_at.Tie as tie
 
-mul-result : tie.Need-mul-result
-mul-result c = search needs
-
-shared-slice-copy-out-result : tie.Need-shared-slice-copy-out-result
-shared-slice-copy-out-result c = search needs
-
 cast-result : tie.Need-cast-result
 cast-result c =
     let start = c .before in
@@ -28,4 +22,4 @@ returns c =
     simp (back (getD (start .args .rec .now) (start .args .at) (pos 0)) (record { sfits = c .result .given }))
 
 pub mode-at-spec : {M : Type 1} → statement M
-mode-at-spec = tie.close (tie.spec mul-result shared-slice-copy-out-result cast-result returns)
+mode-at-spec = tie.close (tie.spec (λ c. search needs) (λ c. search needs) cast-result returns)

@@ -16,27 +16,6 @@ Inv-loop rec at origins₀ i₀ origins i = (i ≤ 27) × (length origins ≡ 27
 abbrev μ-loop : tie.MeasureT-loop
 μ-loop rec at origins₀ i₀ origins i = 27 - i
 
-loop-holds : tie.Need-loop-holds Inv-loop μ-loop
-loop-holds c = search needs
-
-add-length-at : tie.Need-add-length-at Inv-loop μ-loop
-add-length-at c = search needs
-
-length-at-requires : tie.Need-length-at-requires Inv-loop μ-loop
-length-at-requires c κs = search needs
-
-mul-origins : tie.Need-mul-origins Inv-loop μ-loop
-mul-origins c = search needs
-
-array-set-from-origins : tie.Need-array-set-from-origins Inv-loop μ-loop
-array-set-from-origins c = search needs
-
-add-i : tie.Need-add-i Inv-loop μ-loop
-add-i c = search needs
-
-loop-less : tie.Need-loop-less Inv-loop μ-loop
-loop-less c = search needs
-
 loop-again : tie.Need-loop-again Inv-loop μ-loop
 loop-again c =
     let l = c .before .before .loop in
@@ -56,12 +35,12 @@ origins-at-spec =
     (tie.spec
     Inv-loop
     μ-loop
-    loop-holds
-    add-length-at
-    length-at-requires
-    mul-origins
-    array-set-from-origins
-    add-i
-    loop-less
+    (λ c. search needs)
+    (λ c. search needs)
+    (λ c κs. search needs)
+    (λ c. search needs)
+    (λ c. search needs)
+    (λ c. search needs)
+    (λ c. search needs)
     loop-again
     returns)

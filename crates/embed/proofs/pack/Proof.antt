@@ -6,24 +6,6 @@ use Rattle.embed.proofs.Runs.{all-runs}
 use Rattle.embed.proofs.pack.Statement.{statement}
 use Rattle.embed.proofs.pack.Tie as tie
 
-put-place-requires : tie.Need-put-place-requires
-put-place-requires c κs = search needs
-
-put-origins-requires : tie.Need-put-origins-requires
-put-origins-requires c κs = search needs
-
-put-place-requires-2 : tie.Need-put-place-requires-2
-put-place-requires-2 c κs = search needs
-
-put-modes-requires : tie.Need-put-modes-requires
-put-modes-requires c κs = search needs
-
-put-quantities-requires : tie.Need-put-quantities-requires
-put-quantities-requires c κs = search needs
-
-same-length : tie.Need-same-length
-same-length c = search needs
-
 returns : tie.Need-returns
 returns c =
     let quantities = c .before in
@@ -40,10 +22,10 @@ pub pack-spec : {M : Type 1} → statement M
 pack-spec =
     tie.close
     (tie.spec
-    put-place-requires
-    put-origins-requires
-    put-place-requires-2
-    put-modes-requires
-    put-quantities-requires
-    same-length
+    (λ c κs. search needs)
+    (λ c κs. search needs)
+    (λ c κs. search needs)
+    (λ c κs. search needs)
+    (λ c κs. search needs)
+    (λ c. search needs)
     returns)

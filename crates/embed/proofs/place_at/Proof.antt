@@ -16,27 +16,6 @@ Inv-loop rec at place₀ axis₀ place axis = (axis ≤ 3) × (length place ≡ 
 abbrev μ-loop : tie.MeasureT-loop
 μ-loop rec at place₀ axis₀ place axis = 3 - axis
 
-loop-holds : tie.Need-loop-holds Inv-loop μ-loop
-loop-holds c = search needs
-
-add-length-at : tie.Need-add-length-at Inv-loop μ-loop
-add-length-at c = search needs
-
-length-at-requires : tie.Need-length-at-requires Inv-loop μ-loop
-length-at-requires c κs = search needs
-
-mul-place : tie.Need-mul-place Inv-loop μ-loop
-mul-place c = search needs
-
-array-set-from-place : tie.Need-array-set-from-place Inv-loop μ-loop
-array-set-from-place c = search needs
-
-add-axis : tie.Need-add-axis Inv-loop μ-loop
-add-axis c = search needs
-
-loop-less : tie.Need-loop-less Inv-loop μ-loop
-loop-less c = search needs
-
 loop-again : tie.Need-loop-again Inv-loop μ-loop
 loop-again c =
     let l = c .before .before .loop in
@@ -56,12 +35,12 @@ place-at-spec =
     (tie.spec
     Inv-loop
     μ-loop
-    loop-holds
-    add-length-at
-    length-at-requires
-    mul-place
-    array-set-from-place
-    add-axis
-    loop-less
+    (λ c. search needs)
+    (λ c. search needs)
+    (λ c κs. search needs)
+    (λ c. search needs)
+    (λ c. search needs)
+    (λ c. search needs)
+    (λ c. search needs)
     loop-again
     returns)

@@ -20,27 +20,6 @@ Inv-loop rec₀ at origins i₀ rec i = (i ≤ 27) × (length origins ≡ 27) ×
 abbrev μ-loop : tie.MeasureT-loop
 μ-loop rec₀ at origins i₀ rec i = 27 - i
 
-loop-holds : tie.Need-loop-holds Inv-loop μ-loop
-loop-holds c = search needs
-
-mul-put-length : tie.Need-mul-put-length Inv-loop μ-loop
-mul-put-length c = search needs
-
-array-copy-out-put-length : tie.Need-array-copy-out-put-length Inv-loop μ-loop
-array-copy-out-put-length c = search needs
-
-add-put-length : tie.Need-add-put-length Inv-loop μ-loop
-add-put-length c = search needs
-
-put-length-requires : tie.Need-put-length-requires Inv-loop μ-loop
-put-length-requires c κs = search needs
-
-add-i : tie.Need-add-i Inv-loop μ-loop
-add-i c = search needs
-
-loop-less : tie.Need-loop-less Inv-loop μ-loop
-loop-less c = search needs
-
 loop-again : tie.Need-loop-again Inv-loop μ-loop
 loop-again c =
     let loop = c .before .before .before .before .before in
@@ -49,9 +28,6 @@ loop-again c =
     let ls = start .t1 in
     let put = ap (λ (zs : List ℤ). set zs (start .at + l .i) (getD ls (l .i) nowhere .0)) (l .inv .3) in
     (omega arith, l .inv .1, omega arith, c .before .put-length .ensures ∙ put ∙ sym (put-next (start .rec .now) (start .at) ls (l .i) (omega arith)))
-
-same-length : tie.Need-same-length Inv-loop μ-loop
-same-length c = search needs
 
 returns : tie.Need-returns Inv-loop μ-loop
 returns c =
@@ -65,13 +41,13 @@ put-origins-spec =
     (tie.spec
     Inv-loop
     μ-loop
-    loop-holds
-    mul-put-length
-    array-copy-out-put-length
-    add-put-length
-    put-length-requires
-    add-i
-    loop-less
+    (λ c. search needs)
+    (λ c. search needs)
+    (λ c. search needs)
+    (λ c. search needs)
+    (λ c κs. search needs)
+    (λ c. search needs)
+    (λ c. search needs)
     loop-again
-    same-length
+    (λ c. search needs)
     returns)

@@ -9,32 +9,8 @@ use Rattle.laws.proofs.Ints.{back}
 use Rattle.embed.proofs.put_quantities.Statement.{statement}
 use Rattle.embed.proofs.put_quantities.Tie as tie
 
-slice-set-from-counts : tie.Need-slice-set-from-counts
-slice-set-from-counts c = search needs
-
-slice-set-from-turns : tie.Need-slice-set-from-turns
-slice-set-from-turns c = search needs
-
-cast-rec : tie.Need-cast-rec
-cast-rec c = search needs
-
-slice-set-from-rec : tie.Need-slice-set-from-rec
-slice-set-from-rec c = search needs
-
-cast-rec-2 : tie.Need-cast-rec-2
-cast-rec-2 c = search needs
-
-slice-set-from-rec-2 : tie.Need-slice-set-from-rec-2
-slice-set-from-rec-2 c = search needs
-
-cast-rec-3 : tie.Need-cast-rec-3
-cast-rec-3 c = search needs
-
 slice-set-from-rec-3 : tie.Need-slice-set-from-rec-3
 slice-set-from-rec-3 c = simp length-set (omega arith)
-
-same-length : tie.Need-same-length
-same-length c = search needs
 
 returns : tie.Need-returns
 returns c =
@@ -51,13 +27,13 @@ pub put-quantities-spec : {M : Type 1} → statement M
 put-quantities-spec =
     tie.close
     (tie.spec
-    slice-set-from-counts
-    slice-set-from-turns
-    cast-rec
-    slice-set-from-rec
-    cast-rec-2
-    slice-set-from-rec-2
-    cast-rec-3
+    (λ c. search needs)
+    (λ c. search needs)
+    (λ c. search needs)
+    (λ c. search needs)
+    (λ c. search needs)
+    (λ c. search needs)
+    (λ c. search needs)
     slice-set-from-rec-3
-    same-length
+    (λ c. search needs)
     returns)

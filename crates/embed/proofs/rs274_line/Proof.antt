@@ -8,12 +8,6 @@ use Rattle.embed.proofs.Held.{passed, failed, long}
 use Rattle.embed.proofs.rs274_line.Statement.{statement}
 use Rattle.embed.proofs.rs274_line.Tie as tie
 
-holdable-requires : tie.Need-holdable-requires
-holdable-requires c κs = search needs
-
-same-length : tie.Need-same-length
-same-length c = search needs
-
 returns : tie.Need-returns
 returns c =
     record {
@@ -24,26 +18,11 @@ returns c =
 unpack-requires : tie.Need-unpack-requires
 unpack-requires c κs = passed (c .before .before .holdable .ensures) (c .before .if1 .left)
 
-work-requires : tie.Need-work-requires
-work-requires c κs = search needs
-
 pack-requires : tie.Need-pack-requires
 pack-requires c κs =
     let work = c .before .before .before .before in
     let test = work .before .before .before .before .before in
     long (test .before .before .before .before .args .rec .now) (passed (test .before .holdable .ensures) (test .if1 .left))
-
-answered-requires : tie.Need-answered-requires
-answered-requires c κs = search needs
-
-same-length-2 : tie.Need-same-length-2
-same-length-2 c = search needs
-
-same-length-3 : tie.Need-same-length-3
-same-length-3 c = search needs
-
-same-length-4 : tie.Need-same-length-4
-same-length-4 c = search needs
 
 returns-2 : tie.Need-returns-2
 returns-2 c =
@@ -66,14 +45,14 @@ pub rs274-line-spec : {M : Type 1} → statement M
 rs274-line-spec =
     tie.close
     (tie.spec
-    holdable-requires
-    same-length
+    (λ c κs. search needs)
+    (λ c. search needs)
     returns
     unpack-requires
-    work-requires
+    (λ c κs. search needs)
     pack-requires
-    answered-requires
-    same-length-2
-    same-length-3
-    same-length-4
+    (λ c κs. search needs)
+    (λ c. search needs)
+    (λ c. search needs)
+    (λ c. search needs)
     returns-2)

@@ -17,9 +17,6 @@ returns c =
     let e : toZ w64 (ofZ w64 (start .number)) ≡ start .number = back (start .number) (search needs) in
     sym (below-zero (start .high) (start .number) (rw e at (c .if1 .taken)))
 
-cast-result : tie.Need-cast-result
-cast-result c = search needs
-
 returns-2 : tie.Need-returns-2
 returns-2 c =
     let start = c .before .args in
@@ -27,4 +24,4 @@ returns-2 c =
     rw (e, toZ-pos w64 {n = start .high} (omega arith)) (from-zero (start .high) (start .number) (rw e at (c .if1 .left)))
 
 pub up-to-spec : {M : Type 1} → statement M
-up-to-spec = tie.close (tie.spec returns cast-result returns-2)
+up-to-spec = tie.close (tie.spec returns (λ c. search needs) returns-2)

@@ -18,27 +18,12 @@ returns-2 c =
     let f = framesIn (start .many) (start .out .now) in
     no-room (start .text .now) (start .at) f (commands-there (start .many) (start .out .now) (omega arith)) (omega arith)
 
-frames-size-requires : tie.Need-frames-size-requires
-frames-size-requires c κs = search needs
-
-sub-if3 : tie.Need-sub-if3
-sub-if3 c = search needs
-
 returns-3 : tie.Need-returns-3
 returns-3 c =
     let size = c .before in
     let start = size .before .before .before .before .args in
     let f = framesIn (start .many) (start .out .now) in
     no-room (start .text .now) (start .at) f (commands-there (start .many) (start .out .now) (omega arith)) (omega (arith, size .frames-size .ensures))
-
-put-frames-requires : tie.Need-put-frames-requires
-put-frames-requires c κs = search needs
-
-add-t7 : tie.Need-add-t7
-add-t7 c = search needs
-
-same-length : tie.Need-same-length
-same-length c = search needs
 
 returns-4 : tie.Need-returns-4
 returns-4 c =
@@ -55,10 +40,10 @@ accepted-spec =
     (tie.spec
     returns
     returns-2
-    frames-size-requires
-    sub-if3
+    (λ c κs. search needs)
+    (λ c. search needs)
     returns-3
-    put-frames-requires
-    add-t7
-    same-length
+    (λ c κs. search needs)
+    (λ c. search needs)
+    (λ c. search needs)
     returns-4)

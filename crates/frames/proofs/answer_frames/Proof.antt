@@ -8,26 +8,8 @@ use Rattle.frames.proofs.Command.{for-accepted, for-refused, for-skippe
 use Rattle.frames.proofs.answer_frames.Statement.{statement}
 use Rattle.frames.proofs.answer_frames.Tie as tie
 
-enum-known-answer : tie.Need-enum-known-answer
-enum-known-answer c = search needs
-
-accepted-requires : tie.Need-accepted-requires
-accepted-requires c κs = search needs
-
-enum-known-answer-2 : tie.Need-enum-known-answer-2
-enum-known-answer-2 c = search needs
-
-refusal-requires : tie.Need-refusal-requires
-refusal-requires c κs = search needs
-
 enum-told : tie.Need-enum-told
 enum-told c = search needs
-
-accepted-requires-2 : tie.Need-accepted-requires-2
-accepted-requires-2 c κs = search needs
-
-same-length : tie.Need-same-length
-same-length c = search needs
 
 returns : tie.Need-returns
 returns c =
@@ -37,9 +19,6 @@ returns c =
     let out = start .out .now in
     put-alike (start .text .now) (start .at) (for-accepted out (known .0 .0) ∙ ap (λ (a : Answer). answerFrames a out) (sym (known .1))) (put .accepted .ensures)
 
-same-length-2 : tie.Need-same-length-2
-same-length-2 c = search needs
-
 returns-2 : tie.Need-returns-2
 returns-2 c =
     let put = c .before .before in
@@ -47,9 +26,6 @@ returns-2 c =
     let start = put .before .before .before .before .before .before .args in
     let out = start .out .now in
     put-alike (start .text .now) (start .at) (for-refused out (known .0 .0) ∙ ap (λ (a : Answer). answerFrames a out) (sym (known .1))) (put .refusal .ensures)
-
-same-length-3 : tie.Need-same-length-3
-same-length-3 c = search needs
 
 returns-3 : tie.Need-returns-3
 returns-3 c =
@@ -63,15 +39,15 @@ pub answer-frames-spec : {M : Type 1} → statement M
 answer-frames-spec =
     tie.close
     (tie.spec
-    enum-known-answer
-    accepted-requires
-    enum-known-answer-2
-    refusal-requires
+    (λ c. search needs)
+    (λ c κs. search needs)
+    (λ c. search needs)
+    (λ c κs. search needs)
     enum-told
-    accepted-requires-2
-    same-length
+    (λ c κs. search needs)
+    (λ c. search needs)
     returns
-    same-length-2
+    (λ c. search needs)
     returns-2
-    same-length-3
+    (λ c. search needs)
     returns-3)

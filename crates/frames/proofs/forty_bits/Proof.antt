@@ -11,9 +11,6 @@ sub-result c = down-fits (c .before .args .number) (c .before .fits .number) (c 
 cast-result : tie.Need-cast-result
 cast-result c = down-casts (c .before .args .number) (c .before .fits .number) (c .if1 .taken)
 
-sub-result-2 : tie.Need-sub-result-2
-sub-result-2 c = search needs
-
 cast-result-2 : tie.Need-cast-result-2
 cast-result-2 c = up-casts (c .before .args .number) (c .before .fits .number) (c .if1 .left)
 
@@ -25,4 +22,4 @@ returns-2 c = up-complement (c .before .args .number) (c .before .fits .number) 
 
 pub forty-bits-spec : {M : Type 1} → statement M
 forty-bits-spec =
-    tie.close (tie.spec sub-result cast-result sub-result-2 cast-result-2 returns returns-2)
+    tie.close (tie.spec sub-result cast-result (λ c. search needs) cast-result-2 returns returns-2)

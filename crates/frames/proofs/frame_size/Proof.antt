@@ -10,24 +10,6 @@ use Rattle.frames.proofs.Command.{frame-long}
 use Rattle.frames.proofs.frame_size.Statement.{statement}
 use Rattle.frames.proofs.frame_size.Tie as tie
 
-mul-forty-bits : tie.Need-mul-forty-bits
-mul-forty-bits c = search needs
-
-shared-slice-copy-out-forty-bits : tie.Need-shared-slice-copy-out-forty-bits
-shared-slice-copy-out-forty-bits c = search needs
-
-forty-bits-requires : tie.Need-forty-bits-requires
-forty-bits-requires c κs = search needs
-
-fields-used-requires : tie.Need-fields-used-requires
-fields-used-requires c κs = search needs
-
-mul-result : tie.Need-mul-result
-mul-result c = search needs
-
-add-result : tie.Need-add-result
-add-result c = search needs
-
 returns : tie.Need-returns
 returns c =
     let kind = c .before in
@@ -41,10 +23,10 @@ pub frame-size-spec : {M : Type 1} → statement M
 frame-size-spec =
     tie.close
     (tie.spec
-    mul-forty-bits
-    shared-slice-copy-out-forty-bits
-    forty-bits-requires
-    fields-used-requires
-    mul-result
-    add-result
+    (λ c. search needs)
+    (λ c. search needs)
+    (λ c κs. search needs)
+    (λ c κs. search needs)
+    (λ c. search needs)
+    (λ c. search needs)
     returns)

@@ -18,21 +18,6 @@ abbrev μ-loop : tie.MeasureT-loop
 loop-holds : tie.Need-loop-holds Inv-loop μ-loop
 loop-holds c = (omega arith, refl, omega arith)
 
-mul-frame-size : tie.Need-mul-frame-size Inv-loop μ-loop
-mul-frame-size c = omega arith
-
-frame-size-requires : tie.Need-frame-size-requires Inv-loop μ-loop
-frame-size-requires c κs = omega arith
-
-add-size : tie.Need-add-size Inv-loop μ-loop
-add-size c = omega arith
-
-add-k : tie.Need-add-k Inv-loop μ-loop
-add-k c = omega arith
-
-loop-less : tie.Need-loop-less Inv-loop μ-loop
-loop-less c = omega arith
-
 loop-again : tie.Need-loop-again Inv-loop μ-loop
 loop-again c =
     let loop = c .before .before in
@@ -54,10 +39,10 @@ frames-size-spec =
     Inv-loop
     μ-loop
     loop-holds
-    mul-frame-size
-    frame-size-requires
-    add-size
-    add-k
-    loop-less
+    (λ c. omega arith)
+    (λ c κs. omega arith)
+    (λ c. omega arith)
+    (λ c. omega arith)
+    (λ c. omega arith)
     loop-again
     returns)

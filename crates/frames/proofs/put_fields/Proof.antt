@@ -21,33 +21,6 @@ abbrev μ-loop : tie.MeasureT-loop
 loop-holds : tie.Need-loop-holds Inv-loop μ-loop
 loop-holds c = (omega arith, refl, refl)
 
-add-forty-bits : tie.Need-add-forty-bits Inv-loop μ-loop
-add-forty-bits c = omega arith
-
-mul-forty-bits : tie.Need-mul-forty-bits Inv-loop μ-loop
-mul-forty-bits c = omega arith
-
-shared-slice-copy-out-forty-bits : tie.Need-shared-slice-copy-out-forty-bits Inv-loop μ-loop
-shared-slice-copy-out-forty-bits c = omega arith
-
-forty-bits-requires : tie.Need-forty-bits-requires Inv-loop μ-loop
-forty-bits-requires c κs = omega arith
-
-mul-put-hex : tie.Need-mul-put-hex Inv-loop μ-loop
-mul-put-hex c = omega arith
-
-add-put-hex : tie.Need-add-put-hex Inv-loop μ-loop
-add-put-hex c = omega arith
-
-put-hex-requires : tie.Need-put-hex-requires Inv-loop μ-loop
-put-hex-requires c κs = omega arith
-
-add-j : tie.Need-add-j Inv-loop μ-loop
-add-j c = omega arith
-
-loop-less : tie.Need-loop-less Inv-loop μ-loop
-loop-less c = omega arith
-
 loop-again : tie.Need-loop-again Inv-loop μ-loop
 loop-again c =
     let put = c .before .before in
@@ -60,9 +33,6 @@ loop-again c =
     let read = read-complement (getD out (first + j) (pos 0)) (bits .before .forty-bits-arg .given) (bits .forty-bits .ensures) in
     let field = read ∙ ap complement (sym (getD-drop first out j (pos 0))) in
     (omega arith, omega arith, field-put (start .text .now) (drop first out) (start .at) j (omega (arith, length-drop first out)) (loop .loop .inv .2) field (put .put-hex .ensures))
-
-same-length : tie.Need-same-length Inv-loop μ-loop
-same-length c = omega arith
 
 returns : tie.Need-returns Inv-loop μ-loop
 returns c =
@@ -78,15 +48,15 @@ put-fields-spec =
     Inv-loop
     μ-loop
     loop-holds
-    add-forty-bits
-    mul-forty-bits
-    shared-slice-copy-out-forty-bits
-    forty-bits-requires
-    mul-put-hex
-    add-put-hex
-    put-hex-requires
-    add-j
-    loop-less
+    (λ c. omega arith)
+    (λ c. omega arith)
+    (λ c. omega arith)
+    (λ c κs. omega arith)
+    (λ c. omega arith)
+    (λ c. omega arith)
+    (λ c κs. omega arith)
+    (λ c. omega arith)
+    (λ c. omega arith)
     loop-again
-    same-length
+    (λ c. omega arith)
     returns)

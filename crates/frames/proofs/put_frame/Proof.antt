@@ -11,21 +11,6 @@ use Rattle.frames.proofs.Command.{frame-parts, frame-long}
 use Rattle.frames.proofs.put_frame.Statement.{statement}
 use Rattle.frames.proofs.put_frame.Tie as tie
 
-mul-forty-bits : tie.Need-mul-forty-bits
-mul-forty-bits c = search needs
-
-shared-slice-copy-out-forty-bits : tie.Need-shared-slice-copy-out-forty-bits
-shared-slice-copy-out-forty-bits c = search needs
-
-forty-bits-requires : tie.Need-forty-bits-requires
-forty-bits-requires c κs = search needs
-
-fields-used-requires : tie.Need-fields-used-requires
-fields-used-requires c κs = search needs
-
-add-put-parts : tie.Need-add-put-parts
-add-put-parts c = search needs
-
 put-parts-requires : tie.Need-put-parts-requires
 put-parts-requires c κs =
     let many = c .before in
@@ -36,18 +21,6 @@ put-parts-requires c κs =
     let read = read-complement (getD out base (pos 0)) (kind .before .forty-bits-arg .given) (kind .forty-bits .ensures) in
     let long = frame-long out base (kind .forty-bits .result) (many .fields-used .result) read (many .fields-used .ensures .0) (omega arith) in
     omega (arith, long)
-
-add-result : tie.Need-add-result
-add-result c = search needs
-
-mul-result : tie.Need-mul-result
-mul-result c = search needs
-
-add-result-2 : tie.Need-add-result-2
-add-result-2 c = search needs
-
-same-length : tie.Need-same-length
-same-length c = search needs
 
 returns : tie.Need-returns
 returns c =
@@ -67,14 +40,14 @@ pub put-frame-spec : {M : Type 1} → statement M
 put-frame-spec =
     tie.close
     (tie.spec
-    mul-forty-bits
-    shared-slice-copy-out-forty-bits
-    forty-bits-requires
-    fields-used-requires
-    add-put-parts
+    (λ c. search needs)
+    (λ c. search needs)
+    (λ c κs. search needs)
+    (λ c κs. search needs)
+    (λ c. search needs)
     put-parts-requires
-    add-result
-    mul-result
-    add-result-2
-    same-length
+    (λ c. search needs)
+    (λ c. search needs)
+    (λ c. search needs)
+    (λ c. search needs)
     returns)

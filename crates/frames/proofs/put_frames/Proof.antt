@@ -19,9 +19,6 @@ abbrev μ-loop : tie.MeasureT-loop
 loop-holds : tie.Need-loop-holds Inv-loop μ-loop
 loop-holds c = (omega arith, refl, omega arith, refl)
 
-mul-put-frame : tie.Need-mul-put-frame Inv-loop μ-loop
-mul-put-frame c = omega arith
-
 put-frame-requires : tie.Need-put-frame-requires Inv-loop μ-loop
 put-frame-requires c κs =
     let loop = c .before .before in
@@ -31,12 +28,6 @@ put-frame-requires c κs =
     let more = ap length (frames-more k out) in
     omega (arith, more, length-append (framesIn k out) (frame (drop (8 * k) out)), frames-grow (k + 1) (start .many) out (omega arith), loop .loop .inv .2)
 
-add-k : tie.Need-add-k Inv-loop μ-loop
-add-k c = omega arith
-
-loop-less : tie.Need-loop-less Inv-loop μ-loop
-loop-less c = omega arith
-
 loop-again : tie.Need-loop-again Inv-loop μ-loop
 loop-again c =
     let put = c .before .before in
@@ -44,9 +35,6 @@ loop-again c =
     let start = loop .before .before .args in
     let added = frame-added (start .text .now) (start .out .now) (start .at) (loop .loop .k) (loop .loop .inv .2) (loop .loop .inv .3) (put .put-frame .ensures .0) (put .put-frame .ensures .1) in
     (omega arith, omega arith, added .0, added .1)
-
-same-length : tie.Need-same-length Inv-loop μ-loop
-same-length c = omega arith
 
 returns : tie.Need-returns Inv-loop μ-loop
 returns c =
@@ -62,10 +50,10 @@ put-frames-spec =
     Inv-loop
     μ-loop
     loop-holds
-    mul-put-frame
+    (λ c. omega arith)
     put-frame-requires
-    add-k
-    loop-less
+    (λ c. omega arith)
+    (λ c. omega arith)
     loop-again
-    same-length
+    (λ c. omega arith)
     returns)

@@ -13,27 +13,6 @@ use Rattle.frames.proofs.Stores.{closed-run}
 use Rattle.frames.proofs.put_parts.Statement.{statement}
 use Rattle.frames.proofs.put_parts.Tie as tie
 
-put-hex-requires : tie.Need-put-hex-requires
-put-hex-requires c κs = search needs
-
-add-put-fields : tie.Need-add-put-fields
-add-put-fields c = search needs
-
-put-fields-requires : tie.Need-put-fields-requires
-put-fields-requires c κs = search needs
-
-add-text : tie.Need-add-text
-add-text c = search needs
-
-mul-text : tie.Need-mul-text
-mul-text c = search needs
-
-add-text-2 : tie.Need-add-text-2
-add-text-2 c = search needs
-
-slice-write-text : tie.Need-slice-write-text
-slice-write-text c = search needs
-
 same-length : tie.Need-same-length
 same-length c = simp length-set (search needs)
 
@@ -51,12 +30,12 @@ pub put-parts-spec : {M : Type 1} → statement M
 put-parts-spec =
     tie.close
     (tie.spec
-    put-hex-requires
-    add-put-fields
-    put-fields-requires
-    add-text
-    mul-text
-    add-text-2
-    slice-write-text
+    (λ c κs. search needs)
+    (λ c. search needs)
+    (λ c κs. search needs)
+    (λ c. search needs)
+    (λ c. search needs)
+    (λ c. search needs)
+    (λ c. search needs)
     same-length
     returns)

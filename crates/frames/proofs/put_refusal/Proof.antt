@@ -11,21 +11,6 @@ use Rattle.frames.proofs.Stores.{closed-run}
 use Rattle.frames.proofs.put_refusal.Statement.{statement}
 use Rattle.frames.proofs.put_refusal.Tie as tie
 
-put-hex-requires : tie.Need-put-hex-requires
-put-hex-requires c κs = search needs
-
-add-put-hex : tie.Need-add-put-hex
-add-put-hex c = search needs
-
-put-hex-requires-2 : tie.Need-put-hex-requires-2
-put-hex-requires-2 c κs = search needs
-
-add-text : tie.Need-add-text
-add-text c = search needs
-
-slice-write-text : tie.Need-slice-write-text
-slice-write-text c = search needs
-
 same-length : tie.Need-same-length
 same-length c = simp length-set (search needs)
 
@@ -43,10 +28,10 @@ pub put-refusal-spec : {M : Type 1} → statement M
 put-refusal-spec =
     tie.close
     (tie.spec
-    put-hex-requires
-    add-put-hex
-    put-hex-requires-2
-    add-text
-    slice-write-text
+    (λ c κs. search needs)
+    (λ c. search needs)
+    (λ c κs. search needs)
+    (λ c. search needs)
+    (λ c. search needs)
     same-length
     returns)

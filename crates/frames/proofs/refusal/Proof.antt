@@ -8,23 +8,11 @@ use Rattle.frames.proofs.Command.{no-room, has-room}
 use Rattle.frames.proofs.refusal.Statement.{statement}
 use Rattle.frames.proofs.refusal.Tie as tie
 
-places-from-requires : tie.Need-places-from-requires
-places-from-requires c κs = search needs
-
 returns : tie.Need-returns
 unfolding refusalFrame
 returns c =
     let start = c .before .before .before .args in
     no-room (start .text .now) (start .at) (refusalFrame (start .number)) refl (omega arith)
-
-put-refusal-requires : tie.Need-put-refusal-requires
-put-refusal-requires c κs = search needs
-
-add-t4 : tie.Need-add-t4
-add-t4 c = search needs
-
-same-length : tie.Need-same-length
-same-length c = search needs
 
 returns-2 : tie.Need-returns-2
 unfolding refusalFrame
@@ -36,4 +24,4 @@ returns-2 c =
 pub refusal-spec : {M : Type 1} → statement M
 refusal-spec =
     tie.close
-    (tie.spec places-from-requires returns put-refusal-requires add-t4 same-length returns-2)
+    (tie.spec (λ c κs. search needs) returns (λ c κs. search needs) (λ c. search needs) (λ c. search needs) returns-2)

@@ -7,15 +7,9 @@ use Rattle.record.proofs.Ranges.{passed, failed}
 use Rattle.record.proofs.in_order.Tie as tie
 use Rattle.record.proofs.in_order.Statement.{statement}
 
-places-in-reach-requires : tie.Need-places-in-reach-requires
-places-in-reach-requires c κs = search needs
-
 returns : tie.Need-returns
 unfolding inOrder
 returns c = rw (failed (c .before .places-in-reach .ensures) (c .if1 .taken)) refl
-
-quantities-in-range-requires : tie.Need-quantities-in-range-requires
-quantities-in-range-requires c κs = search needs
 
 returns-2 : tie.Need-returns-2
 unfolding inOrder
@@ -24,9 +18,6 @@ returns-2 c =
       passed (c .before .before .before .places-in-reach .ensures) (c .before .before .if1 .left),
       failed (c .before .quantities-in-range .ensures) (c .if2 .taken),
     ) refl
-
-modes-served-requires : tie.Need-modes-served-requires
-modes-served-requires c κs = search needs
 
 returns-3 : tie.Need-returns-3
 unfolding inOrder
@@ -40,9 +31,9 @@ pub in-order-spec : {M : Type 1} → statement M
 in-order-spec =
     tie.close
     (tie.spec
-    places-in-reach-requires
+    (λ c κs. search needs)
     returns
-    quantities-in-range-requires
+    (λ c κs. search needs)
     returns-2
-    modes-served-requires
+    (λ c κs. search needs)
     returns-3)

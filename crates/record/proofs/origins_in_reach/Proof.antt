@@ -17,29 +17,11 @@ Inv-loop origins i₀ i = (i ≤ 27) × (length origins ≡ 27) × (inReach orig
 abbrev μ-loop : tie.MeasureT-loop
 μ-loop origins i₀ i = 27 - i
 
-loop-holds : tie.Need-loop-holds Inv-loop μ-loop
-loop-holds c = search needs
-
-mul-in-reach : tie.Need-mul-in-reach Inv-loop μ-loop
-mul-in-reach c = search needs
-
-array-copy-out-in-reach : tie.Need-array-copy-out-in-reach Inv-loop μ-loop
-array-copy-out-in-reach c = search needs
-
-in-reach-requires : tie.Need-in-reach-requires Inv-loop μ-loop
-in-reach-requires c κs = search needs
-
 returns : tie.Need-returns Inv-loop μ-loop
 returns c =
     let l = c .before .before .before .before .loop in
     let q = c .before .in-reach in
     sym (l .inv .2 ∙ far (c .before .before .before .before .before .args .t1) (l .i) (omega arith) (failed (q .ensures) (c .if1 .taken)))
-
-add-i : tie.Need-add-i Inv-loop μ-loop
-add-i c = search needs
-
-loop-less : tie.Need-loop-less Inv-loop μ-loop
-loop-less c = search needs
 
 loop-again : tie.Need-loop-again Inv-loop μ-loop
 loop-again c =
@@ -60,12 +42,12 @@ origins-in-reach-spec =
     (tie.spec
     Inv-loop
     μ-loop
-    loop-holds
-    mul-in-reach
-    array-copy-out-in-reach
-    in-reach-requires
+    (λ c. search needs)
+    (λ c. search needs)
+    (λ c. search needs)
+    (λ c κs. search needs)
     returns
-    add-i
-    loop-less
+    (λ c. search needs)
+    (λ c. search needs)
     loop-again
     returns-2)

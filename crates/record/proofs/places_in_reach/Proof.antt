@@ -6,14 +6,8 @@ use Rattle.record.proofs.Ranges.{passed, failed}
 use Rattle.record.proofs.places_in_reach.Tie as tie
 use Rattle.record.proofs.places_in_reach.Statement.{statement}
 
-in-reach-requires : tie.Need-in-reach-requires
-in-reach-requires c κs = search needs
-
 returns : tie.Need-returns
 returns c = rw (failed (c .before .in-reach .ensures) (c .if1 .taken)) refl
-
-origins-in-reach-requires : tie.Need-origins-in-reach-requires
-origins-in-reach-requires c κs = search needs
 
 returns-2 : tie.Need-returns-2
 returns-2 c =
@@ -21,9 +15,6 @@ returns-2 c =
       passed (c .before .before .before .in-reach .ensures) (c .before .before .if1 .left),
       failed (c .before .origins-in-reach .ensures) (c .if2 .taken),
     ) refl
-
-in-reach-requires-2 : tie.Need-in-reach-requires-2
-in-reach-requires-2 c κs = search needs
 
 returns-3 : tie.Need-returns-3
 returns-3 c =
@@ -36,9 +27,9 @@ pub places-in-reach-spec : {M : Type 1} → statement M
 places-in-reach-spec =
     tie.close
     (tie.spec
-    in-reach-requires
+    (λ c κs. search needs)
     returns
-    origins-in-reach-requires
+    (λ c κs. search needs)
     returns-2
-    in-reach-requires-2
+    (λ c κs. search needs)
     returns-3)

@@ -7,14 +7,8 @@ use Rattle.record.proofs.Ranges.{passed, failed}
 use Rattle.record.proofs.quantities_in_range.Tie as tie
 use Rattle.record.proofs.quantities_in_range.Statement.{statement}
 
-feed-in-range-requires : tie.Need-feed-in-range-requires
-feed-in-range-requires c κs = search needs
-
 returns : tie.Need-returns
 returns c = rw (failed (c .before .feed-in-range .ensures) (c .if1 .taken)) refl
-
-speed-in-range-requires : tie.Need-speed-in-range-requires
-speed-in-range-requires c κs = search needs
 
 returns-2 : tie.Need-returns-2
 returns-2 c =
@@ -53,9 +47,9 @@ pub quantities-in-range-spec : {M : Type 1} → statement M
 quantities-in-range-spec =
     tie.close
     (tie.spec
-    feed-in-range-requires
+    (λ c κs. search needs)
     returns
-    speed-in-range-requires
+    (λ c κs. search needs)
     returns-2
     returns-3
     returns-4

@@ -12,15 +12,6 @@ use Rattle.run.proofs.feed_line.Reads as feed-line-reads
 feed-line-requires : tie.Need-feed-line-requires
 feed-line-requires c κs = c .before .before .before .before .before .before .pre .0
 
-same-length : tie.Need-same-length
-same-length c = search needs
-
-same-length-2 : tie.Need-same-length-2
-same-length-2 c = search needs
-
-same-length-3 : tie.Need-same-length-3
-same-length-3 c = search needs
-
 returns : tie.Need-returns
 returns c =
     let s = c .before .before .before .before .before .before .before .before .before .before .before .args in
@@ -31,15 +22,6 @@ returns c =
 
 close-requires : tie.Need-close-requires
 close-requires c κs = c .before .before .before .before .before .before .pre .0
-
-same-length-4 : tie.Need-same-length-4
-same-length-4 c = search needs
-
-same-length-5 : tie.Need-same-length-5
-same-length-5 c = search needs
-
-same-length-6 : tie.Need-same-length-6
-same-length-6 c = search needs
 
 returns-2 : tie.Need-returns-2
 returns-2 c =
@@ -55,12 +37,12 @@ end-line-spec =
     tie.close
     (tie.spec
     feed-line-requires
-    same-length
-    same-length-2
-    same-length-3
+    (λ c. search needs)
+    (λ c. search needs)
+    (λ c. search needs)
     returns
     close-requires
-    same-length-4
-    same-length-5
-    same-length-6
+    (λ c. search needs)
+    (λ c. search needs)
+    (λ c. search needs)
     returns-2)

@@ -20,50 +20,17 @@ loop-holds c =
     let s = c .args in
     (omega arith, refl, omega arith, holds-none (s .piece .now) (s .from) (s .line .now) (s .held))
 
-sub-loop : tie.Need-sub-loop Inv-loop μ-loop
-sub-loop c = omega arith
-
-sub-if1 : tie.Need-sub-if1 Inv-loop μ-loop
-sub-if1 c = omega arith
-
-same-length : tie.Need-same-length Inv-loop μ-loop
-same-length c = omega arith
-
 returns : tie.Need-returns Inv-loop μ-loop
 returns c = (c .before .before .loop .inv .0, c .before .before .loop .inv .2, (λ inside other. omega arith), c .before .before .loop .inv .3)
 
-add-byte : tie.Need-add-byte Inv-loop μ-loop
-add-byte c = omega arith
-
-shared-slice-read-byte : tie.Need-shared-slice-read-byte Inv-loop μ-loop
-shared-slice-read-byte c = omega arith
-
-same-length-2 : tie.Need-same-length-2 Inv-loop μ-loop
-same-length-2 c = omega arith
-
 returns-2 : tie.Need-returns-2 Inv-loop μ-loop
 returns-2 c = (c .before .before .before .before .loop .inv .0, c .before .before .before .before .loop .inv .2, (λ inside other. absurd (other (c .if2 .taken))), c .before .before .before .before .loop .inv .3)
-
-add-line : tie.Need-add-line Inv-loop μ-loop
-add-line c = omega arith
-
-slice-write-line : tie.Need-slice-write-line Inv-loop μ-loop
-slice-write-line c = omega arith
-
-add-many : tie.Need-add-many Inv-loop μ-loop
-add-many c = omega arith
-
-loop-less : tie.Need-loop-less Inv-loop μ-loop
-loop-less c = omega arith
 
 loop-again : tie.Need-loop-again Inv-loop μ-loop
 loop-again c =
     let s = c .before .before .before .before .before .args in
     let l = c .before .before .before .before .loop in
     (omega arith, simp length-set (omega arith), simp length-set (omega arith), holds-more (s .piece .now) (s .from) (s .line .now) (s .held) (l .many) (l .line) (getD (s .piece .now) (s .from + l .many) 0) (l .inv .3) (omega arith) (omega arith) refl (c .if2 .left))
-
-same-length-3 : tie.Need-same-length-3 Inv-loop μ-loop
-same-length-3 c = omega arith
 
 returns-3 : tie.Need-returns-3 Inv-loop μ-loop
 returns-3 c = (c .before .loop .inv .0, c .before .loop .inv .2, (λ inside other. absurd (omega arith)), c .before .loop .inv .3)
@@ -75,18 +42,18 @@ hold-spec =
     Inv-loop
     μ-loop
     loop-holds
-    sub-loop
-    sub-if1
-    same-length
+    (λ c. omega arith)
+    (λ c. omega arith)
+    (λ c. omega arith)
     returns
-    add-byte
-    shared-slice-read-byte
-    same-length-2
+    (λ c. omega arith)
+    (λ c. omega arith)
+    (λ c. omega arith)
     returns-2
-    add-line
-    slice-write-line
-    add-many
-    loop-less
+    (λ c. omega arith)
+    (λ c. omega arith)
+    (λ c. omega arith)
+    (λ c. omega arith)
     loop-again
-    same-length-3
+    (λ c. omega arith)
     returns-3)

@@ -11,9 +11,6 @@ use Rattle.run.proofs.is_stopped.Tie as tie
 use Rattle.run.proofs.is_stopped.Reads as reads
 use Rattle.run.proofs.is_stopped.Lts as lts
 
-returns : tie.Need-returns
-returns c = search needs
-
 returns-2 : tie.Need-returns-2
 returns-2 c =
     let s = c .before .before .args in
@@ -25,4 +22,4 @@ returns-3 c =
     crowding (s .length) (s .filled) (omega arith) ∙ sym (ap (λ (e : Bool). e || ltb (s .length) (s .filled + 657)) (c .before .if1 .left))
 
 pub is-stopped-spec : {M : Type 1} → statement M
-is-stopped-spec = tie.close (tie.spec returns returns-2 returns-3)
+is-stopped-spec = tie.close (tie.spec (λ c. search needs) returns-2 returns-3)

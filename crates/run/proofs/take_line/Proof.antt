@@ -28,9 +28,6 @@ add-at c =
     let e = c .before .before .hold .ensures in
     omega (arith, e .0)
 
-same-length : tie.Need-same-length
-same-length c = search needs
-
 returns : tie.Need-returns
 returns c =
     let s = c .before .before .before .before .before .before .before .before .args in
@@ -58,18 +55,6 @@ add-t17 c =
     let last = c .before .before .before .before .before .before .before .before .before .before .before .if1 .left in
     omega (arith, e .0)
 
-same-length-2 : tie.Need-same-length-2
-same-length-2 c = search needs
-
-same-length-3 : tie.Need-same-length-3
-same-length-3 c = search needs
-
-same-length-4 : tie.Need-same-length-4
-same-length-4 c = search needs
-
-same-length-5 : tie.Need-same-length-5
-same-length-5 c = search needs
-
 returns-2 : tie.Need-returns-2
 returns-2 c =
     let s = c .before .before .before .before .before .before .before .before .before .before .before .before .before .before .before .before .before .before .before .args in
@@ -89,13 +74,13 @@ take-line-spec =
     hold-requires
     add-next
     add-at
-    same-length
+    (λ c. search needs)
     returns
     shared-slice-read-end-line
     end-line-requires
     add-t17
-    same-length-2
-    same-length-3
-    same-length-4
-    same-length-5
+    (λ c. search needs)
+    (λ c. search needs)
+    (λ c. search needs)
+    (λ c. search needs)
     returns-2)

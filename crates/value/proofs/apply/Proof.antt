@@ -4,19 +4,10 @@ use borrow.Author.Needs.{needs}
 use Rattle.value.proofs.apply.Statement.{statement}
 use Rattle.value.proofs.apply.Tie as tie
 
-checked-requires : tie.Need-checked-requires
-checked-requires c κs = search needs
-
-enum-known-x : tie.Need-enum-known-x
-enum-known-x c = search needs
-
 function-requires : tie.Need-function-requires
 function-requires c κs =
     let s = c .before .before .before in
     good-kept (s .before .args .a) (c .before .x .given .0 .0) (sym (s .checked .ensures) ∙ c .before .x .given .1)
-
-enum-known-n : tie.Need-enum-known-n
-enum-known-n c = search needs
 
 returns : tie.Need-returns
 returns c =
@@ -28,4 +19,4 @@ returns-2 c = rw (sym (c .before .before .before .checked .ensures) ∙ c .befor
 pub apply-spec : {M : Type 1} → statement M
 apply-spec =
     tie.close
-    (tie.spec checked-requires enum-known-x function-requires enum-known-n returns returns-2)
+    (tie.spec (λ c κs. search needs) (λ c. search needs) function-requires (λ c. search needs) returns returns-2)

@@ -8,15 +8,6 @@ use borrow.Author.Needs.{needs}
 use Rattle.value.proofs.entry_at.Statement.{statement}
 use Rattle.value.proofs.entry_at.Tie as tie
 
-mul-t6 : tie.Need-mul-t6
-mul-t6 c = search needs
-
-shared-slice-copy-out-t8 : tie.Need-shared-slice-copy-out-t8
-shared-slice-copy-out-t8 c = search needs
-
-ranged-requires : tie.Need-ranged-requires
-ranged-requires c κs = search needs
-
 returns : tie.Need-returns
 returns c =
     let args = c .before .before .before .args in
@@ -28,4 +19,4 @@ returns-2 c = rw (List·getD-eq-default (now (c .before .args .table)) (pos 0) (
 
 pub entry-at-spec : {M : Type 1} → statement M
 entry-at-spec =
-    tie.close (tie.spec mul-t6 shared-slice-copy-out-t8 ranged-requires returns returns-2)
+    tie.close (tie.spec (λ c. search needs) (λ c. search needs) (λ c κs. search needs) returns returns-2)

@@ -2,11 +2,8 @@ use borrow.Author.Needs.{needs}
 use Rattle.value.proofs.in_range.Statement.{statement}
 use Rattle.value.proofs.in_range.Tie as tie
 
-size-requires : tie.Need-size-requires
-size-requires c κs = search needs
-
 returns : tie.Need-returns
 returns c = rw (c .size .ensures)
 
 pub in-range-spec : {M : Type 1} → statement M
-in-range-spec = tie.close (tie.spec size-requires returns)
+in-range-spec = tie.close (tie.spec (λ c κs. search needs) returns)

@@ -13,17 +13,11 @@ returns c = too-fine _ _ _ (c .if1 .taken)
 returns-2 : tie.Need-returns-2
 returns-2 c = too-large _ _ _ (c .before .if1 .left) (c .if2 .taken)
 
-last-place-requires : tie.Need-last-place-requires
-last-place-requires c κs = search needs
-
 mul-ranged-signed : tie.Need-mul-ranged-signed
 mul-ranged-signed c =
     let args = c .before .before .before .args in
     let place : c .last-place .result ≤ 10000 = rw (c .last-place .ensures) (place-high (args .decimals)) in
     omega (arith, mul-bound (args .digits) (c .last-place .result) 999999999 10000 (c .before .if2 .left) place)
-
-ranged-signed-requires : tie.Need-ranged-signed-requires
-ranged-signed-requires c κs = search needs
 
 returns-3 : tie.Need-returns-3
 returns-3 c =
@@ -35,7 +29,7 @@ number-spec =
     (tie.spec
     returns
     returns-2
-    last-place-requires
+    (λ c κs. search needs)
     mul-ranged-signed
-    ranged-signed-requires
+    (λ c κs. search needs)
     returns-3)

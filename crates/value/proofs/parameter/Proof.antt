@@ -4,12 +4,6 @@ use Rattle.value.proofs.Ranges.{CountsAs, below-first, above-last, a-pa
 use Rattle.value.proofs.parameter.Statement.{statement}
 use Rattle.value.proofs.parameter.Tie as tie
 
-whole-requires : tie.Need-whole-requires
-whole-requires c κs = search needs
-
-enum-known-n : tie.Need-enum-known-n
-enum-known-n c = search needs
-
 counted : (c : tie.After-known-told) → CountsAs (c .before .before .before .before .args .a .0) (c .before .n .given .0 .0)
 counted c = record { fits = record { sfits = c .known-told .given .0 .1 }; is = sym (c .before .n .given .1) ∙ c .before .before .before .whole .ensures }
 
@@ -34,4 +28,4 @@ returns-4 c = no-parameter _ (sym (c .enum-told .given .1) ∙ c .before .before
 pub parameter-spec : {M : Type 1} → statement M
 parameter-spec =
     tie.close
-    (tie.spec whole-requires enum-known-n returns returns-2 cast-t6 enum-told returns-3 returns-4)
+    (tie.spec (λ c κs. search needs) (λ c. search needs) returns returns-2 cast-t6 enum-told returns-3 returns-4)

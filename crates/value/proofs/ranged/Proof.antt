@@ -4,9 +4,6 @@ use borrow.Author.Needs.{needs}
 use Rattle.value.proofs.ranged.Statement.{statement}
 use Rattle.value.proofs.ranged.Tie as tie
 
-in-range-requires : tie.Need-in-range-requires
-in-range-requires c κs = search needs
-
 returns : tie.Need-returns
 unfolding ranged
 returns c = rw (sym (c .before .in-range .ensures) ∙ c .if1 .taken)
@@ -16,4 +13,4 @@ unfolding ranged
 returns-2 c = rw (sym (c .before .in-range .ensures) ∙ c .if1 .left)
 
 pub ranged-spec : {M : Type 1} → statement M
-ranged-spec = tie.close (tie.spec in-range-requires returns returns-2)
+ranged-spec = tie.close (tie.spec (λ c κs. search needs) returns returns-2)

@@ -6,18 +6,6 @@ use Rattle.value.proofs.Kept.{good-kept}
 use Rattle.value.proofs.work.Statement.{statement}
 use Rattle.value.proofs.work.Tie as tie
 
-checked-requires : tie.Need-checked-requires
-checked-requires c κs = search needs
-
-enum-known-x : tie.Need-enum-known-x
-enum-known-x c = search needs
-
-checked-requires-2 : tie.Need-checked-requires-2
-checked-requires-2 c κs = search needs
-
-enum-known-y : tie.Need-enum-known-y
-enum-known-y c = search needs
-
 left : (c : tie.After-known-told) → kept (c .before .before .before .before .args .a) ≡ Good (c .before .x .given .0 .0)
 left c = sym (c .before .before .before .checked .ensures) ∙ c .before .x .given .1
 
@@ -29,12 +17,6 @@ operation-requires c κs =
     let l = c .before .before .before .before in
     let args = l .before .before .before .before .args in
     (good-kept (args .a) (l .before .x .given .0 .0) (left l), good-kept (args .b) (c .before .y .given .0 .0) (right c))
-
-enum-known-n : tie.Need-enum-known-n
-enum-known-n c = search needs
-
-enum-known-n-2 : tie.Need-enum-known-n-2
-enum-known-n-2 c = search needs
 
 returns : tie.Need-returns
 returns c = c .operation .ensures ∙ rw (left (c .before .before .before .before .before), right (c .before))
@@ -49,13 +31,13 @@ pub work-spec : {M : Type 1} → statement M
 work-spec =
     tie.close
     (tie.spec
-    checked-requires
-    enum-known-x
-    checked-requires-2
-    enum-known-y
+    (λ c κs. search needs)
+    (λ c. search needs)
+    (λ c κs. search needs)
+    (λ c. search needs)
     operation-requires
-    enum-known-n
-    enum-known-n-2
+    (λ c. search needs)
+    (λ c. search needs)
     returns
     returns-2
     returns-3)

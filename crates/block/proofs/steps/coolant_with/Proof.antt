@@ -6,12 +6,6 @@ use borrow.Author.Tests.{ne-eqb}
 use Rattle.block.proofs.steps.coolant_with.Statement.{statement}
 use Rattle.block.proofs.steps.coolant_with.Tie as tie
 
-beside-requires : tie.Need-beside-requires
-beside-requires c κs = search needs
-
-beside-requires-2 : tie.Need-beside-requires-2
-beside-requires-2 c κs = search needs
-
 returns : tie.Need-returns
 returns c = rw (c .before .match .keys1) (c .beside .ensures)
 
@@ -23,4 +17,4 @@ returns-3 c = rw (ne-eqb (c .before .args .code) 7 (c .match .rest .0 .1), ne-eq
 
 pub coolant-with-spec : {M : Type 1} → statement M
 coolant-with-spec =
-    tie.close (tie.spec beside-requires beside-requires-2 returns returns-2 returns-3)
+    tie.close (tie.spec (λ c κs. search needs) (λ c κs. search needs) returns returns-2 returns-3)

@@ -9,35 +9,20 @@ use Rattle.block.proofs.Modes.{wider, a-system}
 use Rattle.block.proofs.steps.new_origins.Statement.{statement}
 use Rattle.block.proofs.steps.new_origins.Tie as tie
 
-has-requires : tie.Need-has-requires
-has-requires c κs = search needs
-
 number-requires : tie.Need-number-requires
 number-requires c κs =
     let start = c .before .before .before .before .before in
     wider (whole (start .args .t1 .p .value .0)) (start .pre .1 .system (sym (c .before .before .has .ensures) ∙ c .before .if1 .taken))
-
-cast-system : tie.Need-cast-system
-cast-system c = search needs
-
-element-copy-out-with-axis : tie.Need-element-copy-out-with-axis
-element-copy-out-with-axis c = search needs
 
 with-axis-requires : tie.Need-with-axis-requires
 with-axis-requires c κs =
     let start = c .before .before .before .before .before .before .before in
     (rw (c .before .number .ensures) (a-system (whole (start .args .t1 .p .value .0)) (start .pre .1 .system (sym (c .before .before .before .before .has .ensures) ∙ c .before .before .before .if1 .taken))), (omega arith, start .pre .0 .axes 0))
 
-element-copy-out-with-axis-2 : tie.Need-element-copy-out-with-axis-2
-element-copy-out-with-axis-2 c = search needs
-
 with-axis-requires-2 : tie.Need-with-axis-requires-2
 with-axis-requires-2 c κs =
     let start = c .before .before .before .before .before .before .before .before .before in
     (rw (c .before .before .before .number .ensures) (a-system (whole (start .args .t1 .p .value .0)) (start .pre .1 .system (sym (c .before .before .before .before .before .before .has .ensures) ∙ c .before .before .before .before .before .if1 .taken))), (omega arith, start .pre .0 .axes 1))
-
-element-copy-out-with-axis-3 : tie.Need-element-copy-out-with-axis-3
-element-copy-out-with-axis-3 c = search needs
 
 with-axis-requires-3 : tie.Need-with-axis-requires-3
 with-axis-requires-3 c κs =
@@ -56,14 +41,14 @@ pub new-origins-spec : {M : Type 1} → statement M
 new-origins-spec =
     tie.close
     (tie.spec
-    has-requires
+    (λ c κs. search needs)
     number-requires
-    cast-system
-    element-copy-out-with-axis
+    (λ c. search needs)
+    (λ c. search needs)
     with-axis-requires
-    element-copy-out-with-axis-2
+    (λ c. search needs)
     with-axis-requires-2
-    element-copy-out-with-axis-3
+    (λ c. search needs)
     with-axis-requires-3
     returns
     returns-2)

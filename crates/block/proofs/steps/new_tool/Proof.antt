@@ -10,8 +10,5 @@ number-requires c κs = c .before .pre (c .if1 .taken)
 returns : tie.Need-returns
 returns c = rw (c .before .if1 .taken) (c .number .ensures)
 
-returns-2 : tie.Need-returns-2
-returns-2 c = search needs
-
 pub new-tool-spec : {M : Type 1} → statement M
-new-tool-spec = tie.close (tie.spec number-requires returns returns-2)
+new-tool-spec = tie.close (tie.spec number-requires returns (λ c. search needs))

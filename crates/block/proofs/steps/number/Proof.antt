@@ -20,20 +20,11 @@ number-fits : (n : ℤ) → between 0 99 (To n) ≡ true → T (nonNeg n) × Fit
 number-fits (pos n) e = (tt, record { fits = omega (arith, leb-true n 99 (and-eq-true-iff (leb 0 n) (leb n 99) .0 e .1)) })
 number-fits (negsuc n) e = absurd (false≢true e)
 
-whole-requires : tie.Need-whole-requires
-whole-requires c κs = search needs
-
-enum-known-n : tie.Need-enum-known-n
-enum-known-n c = search needs
-
 cast-result : tie.Need-cast-result
 cast-result c =
     let n = c .before .n .given .0 .0 in
     let named : To n ≡ whole (c .before .before .before .before .args .v .0) = sym (c .before .n .given .1) ∙ c .before .before .before .whole .ensures in
     simp (back n (record { sfits = c .known-told .given .0 .1 })) (number-fits n (ap (between 0 99) named ∙ c .before .before .before .before .pre))
-
-enum-told : tie.Need-enum-told
-enum-told c = search needs
 
 returns : tie.Need-returns
 returns c =
@@ -45,4 +36,4 @@ returns-2 c = ap counted (sym (c .enum-told .given .1) ∙ c .before .before .wh
 
 pub number-spec : {M : Type 1} → statement M
 number-spec =
-    tie.close (tie.spec whole-requires enum-known-n cast-result enum-told returns returns-2)
+    tie.close (tie.spec (λ c κs. search needs) (λ c. search needs) cast-result (λ c. search needs) returns returns-2)

@@ -1,42 +1,13 @@
 -- `block::steps::ready` meets its contract.
 -- Assumes nothing.
-use mathlib.Core.Path.{refl}
+use mathlib.Core.Path.{sym}
 use native.Mathlib.Omega.{arith}
 use borrow.Author.Needs.{needs}
-use Rattle.rules.specs.Steps.{feedStep, speedStep, toolStep, changeStep, spindleStep, coolantStep, planeStep, unitsStep, systemStep, distanceStep, originStep, offsetStep, ready}
-use Rattle.block.proofs.Bounds.{Under, g10-under}
+use Rattle.block.specs.Bounds.{Under}
+use Rattle.block.proofs.Bounds.{g10-under}
+use Rattle.block.proofs.Ready.{ready-is}
 use Rattle.block.proofs.steps.ready.Statement.{statement}
 use Rattle.block.proofs.steps.ready.Tie as tie
-
-new-length-requires : tie.Need-new-length-requires
-new-length-requires c κs = search needs
-
-new-speed-requires : tie.Need-new-speed-requires
-new-speed-requires c κs = search needs
-
-new-tool-requires : tie.Need-new-tool-requires
-new-tool-requires c κs = search needs
-
-new-spindle-requires : tie.Need-new-spindle-requires
-new-spindle-requires c κs = search needs
-
-new-coolant-requires : tie.Need-new-coolant-requires
-new-coolant-requires c κs = search needs
-
-or-else-requires : tie.Need-or-else-requires
-or-else-requires c κs = search needs
-
-or-else-requires-2 : tie.Need-or-else-requires-2
-or-else-requires-2 c κs = search needs
-
-or-else-requires-3 : tie.Need-or-else-requires-3
-or-else-requires-3 c κs = search needs
-
-or-else-requires-4 : tie.Need-or-else-requires-4
-or-else-requires-4 c κs = search needs
-
-new-origins-requires : tie.Need-new-origins-requires
-new-origins-requires c κs = search needs
 
 new-offset-requires : tie.Need-new-offset-requires
 new-offset-requires c κs =
@@ -47,7 +18,6 @@ new-offset-requires c κs =
     (start .pre .0, record { position = start .pre .1 .0 .position; origins = origins; offset = start .pre .1 .0 .offset })
 
 returns : tie.Need-returns
-unfolding feedStep speedStep toolStep changeStep spindleStep coolantStep planeStep unitsStep systemStep distanceStep originStep offsetStep ready
 returns c =
     rw (
       c .new-offset .ensures,
@@ -61,21 +31,22 @@ returns c =
       c .before .before .before .before .before .before .before .before .new-tool .ensures,
       c .before .before .before .before .before .before .before .before .before .new-speed .ensures,
       c .before .before .before .before .before .before .before .before .before .before .new-length .ensures,
-    ) refl
+    )
+    (sym (ready-is (c .before .before .before .before .before .before .before .before .before .before .before .args .b) (c .before .before .before .before .before .before .before .before .before .before .before .args .r)))
 
 pub ready-spec : {M : Type 1} → statement M
 ready-spec =
     tie.close
     (tie.spec
-    new-length-requires
-    new-speed-requires
-    new-tool-requires
-    new-spindle-requires
-    new-coolant-requires
-    or-else-requires
-    or-else-requires-2
-    or-else-requires-3
-    or-else-requires-4
-    new-origins-requires
+    (λ c κs. search needs)
+    (λ c κs. search needs)
+    (λ c κs. search needs)
+    (λ c κs. search needs)
+    (λ c κs. search needs)
+    (λ c κs. search needs)
+    (λ c κs. search needs)
+    (λ c κs. search needs)
+    (λ c κs. search needs)
+    (λ c κs. search needs)
     new-offset-requires
     returns)

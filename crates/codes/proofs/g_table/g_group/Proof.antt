@@ -1,22 +1,15 @@
--- `codes::g_group` meets its contract: one test of the whole table, and nothing is listed past its end.
+-- `codes::g_group` meets its contract: one test of the whole table.
 -- Assumes nothing.
-use mathlib.Core.Path.{sym}
+use mathlib.Core.Path.{_∙_}
 use borrow.Author.Needs.{needs}
 use Rattle.rules.specs.Codes.{gGroup, gGroups}
-use Rattle.codes.proofs.Tables.{entry, past}
-use Rattle.codes.proofs.g_table.g_group.Tie as tie
+use Rattle.codes.proofs.Tables.{listed-by}
 use Rattle.codes.proofs.g_table.g_group.Statement.{statement}
-
-array-read-result : tie.Need-array-read-result
-array-read-result c = search needs
+use Rattle.codes.proofs.g_table.g_group.Tie as tie
 
 returns : tie.Need-returns
 unfolding gGroup
-returns c = entry gGroup 1000 (c .before .args .code) (c .if1 .taken)
-
-returns-2 : tie.Need-returns-2
-unfolding gGroup
-returns-2 c = sym (past 1000 gGroups tt (c .before .args .code) (c .if1 .left))
+returns c = c .entry .ensures ∙ listed-by 1000 gGroups tt (c .before .before .args .code)
 
 pub g-group-spec : {M : Type 1} → statement M
-g-group-spec = tie.close (tie.spec array-read-result returns returns-2)
+g-group-spec = tie.close (tie.spec (λ c κs. search needs) returns)

@@ -7,9 +7,6 @@ use Rattle.codes.proofs.Tables.{entry, past}
 use Rattle.codes.proofs.m_table.m_group.Tie as tie
 use Rattle.codes.proofs.m_table.m_group.Statement.{statement}
 
-array-read-result : tie.Need-array-read-result
-array-read-result c = search needs
-
 returns : tie.Need-returns
 unfolding mGroup
 returns c = entry mGroup 100 (c .before .args .code) (c .if1 .taken)
@@ -19,4 +16,4 @@ unfolding mGroup
 returns-2 c = sym (past 100 mGroups tt (c .before .args .code) (c .if1 .left))
 
 pub m-group-spec : {M : Type 1} → statement M
-m-group-spec = tie.close (tie.spec array-read-result returns returns-2)
+m-group-spec = tie.close (tie.spec (λ c. search needs) returns returns-2)

@@ -14,35 +14,8 @@ use Rattle.reader.proofs.values.value_at.Reads as value-at-reads
 returns : tie.Need-returns
 returns c = at-end (c .before .before .args .table .now) (c .before .before .args .text .now) (c .before .before .args .at) (c .if1 .taken)
 
-shared-slice-read-b : tie.Need-shared-slice-read-b
-shared-slice-read-b c = search needs
-
-is-letter-requires : tie.Need-is-letter-requires
-is-letter-requires c κs = search needs
-
-add-value-at : tie.Need-add-value-at
-add-value-at c = search needs
-
-value-at-requires : tie.Need-value-at-requires
-value-at-requires c κs = search needs
-
-word-item-requires : tie.Need-word-item-requires
-word-item-requires c κs = search needs
-
 returns-2 : tie.Need-returns-2
 returns-2 c = item-word (c .before .before .before .before .before .before .before .args .table .now) (c .before .before .before .before .before .before .before .args .text .now) (c .before .before .before .before .before .before .before .args .at) (c .before .before .before .before .before .if1 .left) (sym (c .before .before .before .is-letter .ensures) ∙ c .before .before .if2 .taken) (c .before .value-at .ensures) (c .word-item .ensures)
-
-add-setting-at : tie.Need-add-setting-at
-add-setting-at c = search needs
-
-setting-at-requires : tie.Need-setting-at-requires
-setting-at-requires c κs = search needs
-
-add-comment-at : tie.Need-add-comment-at
-add-comment-at c = search needs
-
-comment-at-requires : tie.Need-comment-at-requires
-comment-at-requires c κs = search needs
 
 returns-3 : tie.Need-returns-3
 returns-3 c = item-setting (c .before .before .before .before .before .before .before .args .table .now) (c .before .before .before .before .before .before .before .args .text .now) (c .before .before .before .before .before .before .before .args .at) (c .before .before .before .before .before .if1 .left) (sym (c .before .before .before .is-letter .ensures) ∙ c .before .before .if2 .left) (c .before .match .keys1) (c .setting-at .ensures)
@@ -58,16 +31,16 @@ item-at-spec =
     tie.close
     (tie.spec
     returns
-    shared-slice-read-b
-    is-letter-requires
-    add-value-at
-    value-at-requires
-    word-item-requires
+    (λ c. search needs)
+    (λ c κs. search needs)
+    (λ c. search needs)
+    (λ c κs. search needs)
+    (λ c κs. search needs)
     returns-2
-    add-setting-at
-    setting-at-requires
-    add-comment-at
-    comment-at-requires
+    (λ c. search needs)
+    (λ c κs. search needs)
+    (λ c. search needs)
+    (λ c κs. search needs)
     returns-3
     returns-4
     returns-5)

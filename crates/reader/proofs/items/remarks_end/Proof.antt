@@ -26,9 +26,6 @@ shared-slice-read-is-remark c = c .before .loop-test .taken
 is-remark-requires : tie.Need-is-remark-requires Inv-loop μ-loop
 is-remark-requires c κs = tt
 
-add-i : tie.Need-add-i Inv-loop μ-loop
-add-i c = search needs
-
 loop-less : tie.Need-loop-less Inv-loop μ-loop
 loop-less c = omega (arith, c .before .before .before .loop-test .taken)
 
@@ -50,7 +47,7 @@ remarks-end-spec =
     loop-holds
     shared-slice-read-is-remark
     is-remark-requires
-    add-i
+    (λ c. search needs)
     loop-less
     loop-again
     returns

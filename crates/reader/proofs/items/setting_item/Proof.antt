@@ -6,26 +6,8 @@ use Rattle.reader.proofs.items.setting_item.Reads as reads
 use Rattle.reader.proofs.items.setting_item.Lts as lts
 use Rattle.value.proofs.parameter.Reads as parameter-reads
 
-enum-known-number : tie.Need-enum-known-number
-enum-known-number c = search needs
-
-parameter-requires : tie.Need-parameter-requires
-parameter-requires c κs = search needs
-
-enum-known-i : tie.Need-enum-known-i
-enum-known-i c = search needs
-
-enum-known-amount : tie.Need-enum-known-amount
-enum-known-amount c = search needs
-
-enum-known-amount-2 : tie.Need-enum-known-amount-2
-enum-known-amount-2 c = search needs
-
 enum-told : tie.Need-enum-told
 enum-told c = search needs
-
-enum-known-number-2 : tie.Need-enum-known-number-2
-enum-known-number-2 c = search needs
 
 returns : tie.Need-returns
 returns c = rw (c .before .before .before .before .before .before .before .before .number .given .1, sym (c .before .before .before .before .before .before .parameter .ensures) ∙ c .before .before .before .before .i .given .1, c .before .amount .given .1)
@@ -43,13 +25,13 @@ pub setting-item-spec : {M : Type 1} → statement M
 setting-item-spec =
     tie.close
     (tie.spec
-    enum-known-number
-    parameter-requires
-    enum-known-i
-    enum-known-amount
-    enum-known-amount-2
+    (λ c. search needs)
+    (λ c κs. search needs)
+    (λ c. search needs)
+    (λ c. search needs)
+    (λ c. search needs)
     enum-told
-    enum-known-number-2
+    (λ c. search needs)
     returns
     returns-2
     returns-3

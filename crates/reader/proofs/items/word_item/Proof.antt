@@ -4,18 +4,6 @@ use Rattle.reader.proofs.items.word_item.Tie as tie
 use Rattle.reader.proofs.items.word_item.Reads as reads
 use Rattle.reader.proofs.items.word_item.Lts as lts
 
-enum-known-value : tie.Need-enum-known-value
-enum-known-value c = search needs
-
-enum-known-worked : tie.Need-enum-known-worked
-enum-known-worked c = search needs
-
-enum-known-worked-2 : tie.Need-enum-known-worked-2
-enum-known-worked-2 c = search needs
-
-enum-known-value-2 : tie.Need-enum-known-value-2
-enum-known-value-2 c = search needs
-
 returns : tie.Need-returns
 returns c = rw (c .before .before .before .before .value .given .1, c .before .worked .given .1)
 
@@ -29,10 +17,10 @@ pub word-item-spec : {M : Type 1} → statement M
 word-item-spec =
     tie.close
     (tie.spec
-    enum-known-value
-    enum-known-worked
-    enum-known-worked-2
-    enum-known-value-2
+    (λ c. search needs)
+    (λ c. search needs)
+    (λ c. search needs)
+    (λ c. search needs)
     returns
     returns-2
     returns-3)

@@ -22,17 +22,11 @@ loop-holds c = check-none (c .before .args .table .now) (c .before .args .text .
 item-from-requires : tie.Need-item-from-requires Inv-loop μ-loop
 item-from-requires c κs = tt
 
-enum-known-next : tie.Need-enum-known-next Inv-loop μ-loop
-enum-known-next c = search needs
-
 loop-less : tie.Need-loop-less Inv-loop μ-loop
 loop-less c = let k = passed-on (c .before .before .before .before .before .before .args .table .now) (c .before .before .before .before .before .before .args .text .now) (at-word (c .before .before .before .before .before .before .args .table .now) (c .before .before .before .before .before .before .args .text .now) (c .before .before .before .before .loop .i) (rw (c .before .next .given .1) at (c .before .before .before .item-from .ensures))) in omega (arith, k)
 
 loop-again : tie.Need-loop-again Inv-loop μ-loop
 loop-again c = check-more (c .before .before .before .before .before .before .args .table .now) (c .before .before .before .before .before .before .args .text .now) (c .before .before .before .before .before .before .args .at) (c .before .before .before .before .loop .inv) (at-word (c .before .before .before .before .before .before .args .table .now) (c .before .before .before .before .before .before .args .text .now) (c .before .before .before .before .loop .i) (rw (c .before .next .given .1) at (c .before .before .before .item-from .ensures)))
-
-enum-known-next-2 : tie.Need-enum-known-next-2 Inv-loop μ-loop
-enum-known-next-2 c = search needs
 
 loop-less-2 : tie.Need-loop-less-2 Inv-loop μ-loop
 loop-less-2 c = let k = passed-on (c .before .before .before .before .before .before .args .table .now) (c .before .before .before .before .before .before .args .text .now) (at-setting (c .before .before .before .before .before .before .args .table .now) (c .before .before .before .before .before .before .args .text .now) (c .before .before .before .before .loop .i) (rw (c .before .next2 .given .1) at (c .before .before .before .item-from .ensures))) in omega (arith, k)
@@ -40,26 +34,17 @@ loop-less-2 c = let k = passed-on (c .before .before .before .before .before .be
 loop-again-2 : tie.Need-loop-again-2 Inv-loop μ-loop
 loop-again-2 c = check-more (c .before .before .before .before .before .before .args .table .now) (c .before .before .before .before .before .before .args .text .now) (c .before .before .before .before .before .before .args .at) (c .before .before .before .before .loop .inv) (at-setting (c .before .before .before .before .before .before .args .table .now) (c .before .before .before .before .before .before .args .text .now) (c .before .before .before .before .loop .i) (rw (c .before .next2 .given .1) at (c .before .before .before .item-from .ensures)))
 
-enum-known-next-3 : tie.Need-enum-known-next-3 Inv-loop μ-loop
-enum-known-next-3 c = search needs
-
 loop-less-3 : tie.Need-loop-less-3 Inv-loop μ-loop
 loop-less-3 c = let k = passed-on (c .before .before .before .before .before .before .args .table .now) (c .before .before .before .before .before .before .args .text .now) (at-comment (c .before .before .before .before .before .before .args .table .now) (c .before .before .before .before .before .before .args .text .now) (c .before .before .before .before .loop .i) (rw (c .before .next3 .given .1) at (c .before .before .before .item-from .ensures))) in omega (arith, k)
 
 loop-again-3 : tie.Need-loop-again-3 Inv-loop μ-loop
 loop-again-3 c = check-more (c .before .before .before .before .before .before .args .table .now) (c .before .before .before .before .before .before .args .text .now) (c .before .before .before .before .before .before .args .at) (c .before .before .before .before .loop .inv) (at-comment (c .before .before .before .before .before .before .args .table .now) (c .before .before .before .before .before .before .args .text .now) (c .before .before .before .before .loop .i) (rw (c .before .next3 .given .1) at (c .before .before .before .item-from .ensures)))
 
-enum-known-next-4 : tie.Need-enum-known-next-4 Inv-loop μ-loop
-enum-known-next-4 c = search needs
-
 loop-less-4 : tie.Need-loop-less-4 Inv-loop μ-loop
 loop-less-4 c = let k = passed-on (c .before .before .before .before .before .before .args .table .now) (c .before .before .before .before .before .before .args .text .now) (at-stop (c .before .before .before .before .before .before .args .table .now) (c .before .before .before .before .before .before .args .text .now) (c .before .before .before .before .loop .i) (rw (c .before .next4 .given .1) at (c .before .before .before .item-from .ensures))) in omega (arith, k)
 
 loop-again-4 : tie.Need-loop-again-4 Inv-loop μ-loop
 loop-again-4 c = check-more (c .before .before .before .before .before .before .args .table .now) (c .before .before .before .before .before .before .args .text .now) (c .before .before .before .before .before .before .args .at) (c .before .before .before .before .loop .inv) (at-stop (c .before .before .before .before .before .before .args .table .now) (c .before .before .before .before .before .before .args .text .now) (c .before .before .before .before .loop .i) (rw (c .before .next4 .given .1) at (c .before .before .before .item-from .ensures)))
-
-enum-known-p : tie.Need-enum-known-p Inv-loop μ-loop
-enum-known-p c = search needs
 
 returns : tie.Need-returns Inv-loop μ-loop
 returns c = check-wrong (c .before .before .before .before .before .before .args .table .now) (c .before .before .before .before .before .before .args .text .now) (c .before .before .before .before .before .before .args .at) (c .before .before .before .before .loop .inv) (rw (c .before .p .given .1) at (c .before .before .before .item-from .ensures))
@@ -78,19 +63,19 @@ check-from-spec =
     μ-loop
     loop-holds
     item-from-requires
-    enum-known-next
+    (λ c. search needs)
     loop-less
     loop-again
-    enum-known-next-2
+    (λ c. search needs)
     loop-less-2
     loop-again-2
-    enum-known-next-3
+    (λ c. search needs)
     loop-less-3
     loop-again-3
-    enum-known-next-4
+    (λ c. search needs)
     loop-less-4
     loop-again-4
-    enum-known-p
+    (λ c. search needs)
     returns
     enum-told
     returns-2)

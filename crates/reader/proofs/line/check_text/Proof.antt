@@ -10,20 +10,11 @@ use Rattle.reader.proofs.line.check_from.Reads as check-from-reads
 use Rattle.reader.proofs.line.label_end.Reads as label-end-reads
 use Rattle.reader.proofs.line.slash_end.Reads as slash-end-reads
 
-slash-end-requires : tie.Need-slash-end-requires
-slash-end-requires c κs = search needs
-
 label-end-requires : tie.Need-label-end-requires
 label-end-requires c κs = rw (c .slash-end .ensures) (slash-on (c .before .before .args .text .now))
 
-enum-known-p : tie.Need-enum-known-p
-enum-known-p c = search needs
-
 check-from-requires : tie.Need-check-from-requires
 check-from-requires c κs = label-within (c .before .before .before .before .before .before .args .text .now) (c .before .before .before .before .slash-end .result) (rw (c .before .p .given .1) at (c .before .before .before .label-end .ensures))
-
-enum-known-p-2 : tie.Need-enum-known-p-2
-enum-known-p-2 c = search needs
 
 returns : tie.Need-returns
 returns c = c .check-from .ensures ∙ ap checked (line-items (c .before .before .before .before .before .before .before .args .table .now) (c .before .before .before .before .before .before .before .args .text .now) (c .before .before .before .before .before .slash-end .ensures) (rw (c .before .before .p .given .1) at (c .before .before .before .before .label-end .ensures)))
@@ -35,10 +26,10 @@ pub check-text-spec : {M : Type 1} → statement M
 check-text-spec =
     tie.close
     (tie.spec
-    slash-end-requires
+    (λ c κs. search needs)
     label-end-requires
-    enum-known-p
+    (λ c. search needs)
     check-from-requires
-    enum-known-p-2
+    (λ c. search needs)
     returns
     returns-2)

@@ -8,35 +8,14 @@ use Rattle.reader.proofs.line.form.Lts as lts
 use Rattle.reader.proofs.line.check_text.Reads as check-text-reads
 use Rattle.reader.proofs.text.prepare.Reads as prepare-reads
 
-slice-aggregate-prepare : tie.Need-slice-aggregate-prepare
-slice-aggregate-prepare c = search needs
-
-prepare-requires : tie.Need-prepare-requires
-prepare-requires c κs = search needs
-
-enum-known-n : tie.Need-enum-known-n
-enum-known-n c = search needs
-
 array-share-prefix-text : tie.Need-array-share-prefix-text
 array-share-prefix-text c = front-within (c .before .before .before .before .before .before .before .args .line .now) _ refl (rw (c .before .n .given .1) at (c .before .before .before .before .prepare .ensures .0)) (c .before .before .before .before .prepare .ensures .1)
 
 slice-aggregate-check-text : tie.Need-slice-aggregate-check-text
 slice-aggregate-check-text c = front-long (c .before .before .before .before .before .before .before .before .args .line .now) _ refl (rw (c .before .before .n .given .1) at (c .before .before .before .before .before .prepare .ensures .0)) (c .before .before .before .before .before .prepare .ensures .1)
 
-slice-aggregate-check-text-2 : tie.Need-slice-aggregate-check-text-2
-slice-aggregate-check-text-2 c = search needs
-
-check-text-requires : tie.Need-check-text-requires
-check-text-requires c κs = search needs
-
 enum-told : tie.Need-enum-told
 enum-told c = search needs
-
-enum-told-2 : tie.Need-enum-told-2
-enum-told-2 c = search needs
-
-enum-told-3 : tie.Need-enum-told-3
-enum-told-3 c = search needs
 
 returns : tie.Need-returns
 returns c = rw (c .enum-told .given .1) at (form-by-form _ (c .before .before .before .before .before .before .before .before .before .before .before .before .args .line .now) (short (c .before .before .before .before .before .before .before .before .before .before .before .before .args .line .now) _ refl (rw (c .before .before .before .before .before .before .n .given .1) at (c .before .before .before .before .before .before .before .before .before .prepare .ensures .0)) (c .before .before .before .before .before .before .before .before .before .prepare .ensures .1)) (front-is (c .before .before .before .before .before .before .before .before .before .before .before .before .args .line .now) _ refl (rw (c .before .before .before .before .before .before .n .given .1) at (c .before .before .before .before .before .before .before .before .before .prepare .ensures .0)) (c .before .before .before .before .before .before .before .before .before .prepare .ensures .1)) (c .before .before .check-text .ensures))
@@ -51,16 +30,16 @@ pub form-spec : {M : Type 1} → statement M
 form-spec =
     tie.close
     (tie.spec
-    slice-aggregate-prepare
-    prepare-requires
-    enum-known-n
+    (λ c. search needs)
+    (λ c κs. search needs)
+    (λ c. search needs)
     array-share-prefix-text
     slice-aggregate-check-text
-    slice-aggregate-check-text-2
-    check-text-requires
+    (λ c. search needs)
+    (λ c κs. search needs)
     enum-told
-    enum-told-2
-    enum-told-3
+    (λ c. search needs)
+    (λ c. search needs)
     returns
     returns-2
     returns-3)

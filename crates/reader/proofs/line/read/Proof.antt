@@ -23,15 +23,6 @@ not-wrong (Stopped n) h = refl
 not-wrong (Wrong p) h = absurd (miss (0 ∷ 1 ∷ 3 ∷ []) 2 tt h)
 not-wrong TooLong h = refl
 
-slice-aggregate-prepare : tie.Need-slice-aggregate-prepare
-slice-aggregate-prepare c = search needs
-
-prepare-requires : tie.Need-prepare-requires
-prepare-requires c κs = search needs
-
-enum-known-n : tie.Need-enum-known-n
-enum-known-n c = search needs
-
 enum-told : tie.Need-enum-told
 enum-told c = search needs
 
@@ -49,12 +40,6 @@ slice-aggregate-read-text c = front-long (c .before .before .before .before .bef
 
 read-text-requires : tie.Need-read-text-requires
 read-text-requires c κs = front-short (c .before .before .before .before .before .before .before .before .before .before .before .before .args .line .now) _ refl (rw (c .before .before .before .before .before .before .n .given .1) at (c .before .before .before .before .before .before .before .before .before .prepare .ensures .0)) (c .before .before .before .before .before .before .before .before .before .prepare .ensures .1)
-
-enum-told-2 : tie.Need-enum-told-2
-enum-told-2 c = search needs
-
-clear-requires : tie.Need-clear-requires
-clear-requires c κs = search needs
 
 returns-2 : tie.Need-returns-2
 returns-2 c =
@@ -77,15 +62,15 @@ pub read-spec : {M : Type 1} → statement M
 read-spec =
     tie.close
     (tie.spec
-    slice-aggregate-prepare
-    prepare-requires
-    enum-known-n
+    (λ c. search needs)
+    (λ c κs. search needs)
+    (λ c. search needs)
     enum-told
     returns
     array-share-prefix-text
     slice-aggregate-read-text
     read-text-requires
-    enum-told-2
-    clear-requires
+    (λ c. search needs)
+    (λ c κs. search needs)
     returns-2
     returns-3)

@@ -14,20 +14,11 @@ use Rattle.reader.proofs.line.gather.Reads as gather-reads
 use Rattle.reader.proofs.line.label_end.Reads as label-end-reads
 use Rattle.reader.proofs.line.slash_end.Reads as slash-end-reads
 
-slash-end-requires : tie.Need-slash-end-requires
-slash-end-requires c κs = search needs
-
 label-end-requires : tie.Need-label-end-requires
 label-end-requires c κs = rw (c .slash-end .ensures) (slash-on (c .before .before .args .text .now))
 
-enum-known-p : tie.Need-enum-known-p
-enum-known-p c = search needs
-
 gather-requires : tie.Need-gather-requires
 gather-requires c κs = (label-within (c .before .before .before .before .before .before .before .before .before .before .args .text .now) (c .before .before .before .before .before .before .before .before .slash-end .result) (rw (c .before .before .before .before .before .p .given .1) at (c .before .before .before .before .before .before .before .label-end .ensures)), c .before .before .before .before .before .before .before .before .before .before .pre)
-
-enum-known-p-2 : tie.Need-enum-known-p-2
-enum-known-p-2 c = search needs
 
 returns : tie.Need-returns
 returns c = c .gather .ensures ∙ ap (λ (m : Placed (Took Entry)). leftBy m (spaces (c .before .before .before .before .before .before .before .before .before .before .before .args .letters .now) (c .before .before .before .before .before .before .before .before .before .before .before .args .values .now) (c .before .before .before .before .before .before .before .before .before .before .before .args .numbers .now) (c .before .before .before .before .before .before .before .before .before .before .before .args .amounts .now))) (line-items (c .before .before .before .before .before .before .before .before .before .before .before .args .table .now) (c .before .before .before .before .before .before .before .before .before .before .before .args .text .now) (c .before .before .before .before .before .before .before .before .before .slash-end .ensures) (rw (c .before .before .before .before .before .before .p .given .1) at (c .before .before .before .before .before .before .before .before .label-end .ensures)))
@@ -39,10 +30,10 @@ pub read-text-spec : {M : Type 1} → statement M
 read-text-spec =
     tie.close
     (tie.spec
-    slash-end-requires
+    (λ c κs. search needs)
     label-end-requires
-    enum-known-p
+    (λ c. search needs)
     gather-requires
-    enum-known-p-2
+    (λ c. search needs)
     returns
     returns-2)

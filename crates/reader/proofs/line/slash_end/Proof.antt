@@ -9,9 +9,6 @@ use Rattle.reader.proofs.line.slash_end.Lts as lts
 returns : tie.Need-returns
 returns c = slash-none (c .before .args .text .now) (c .if1 .taken)
 
-shared-slice-read-if2 : tie.Need-shared-slice-read-if2
-shared-slice-read-if2 c = search needs
-
 returns-2 : tie.Need-returns-2
 returns-2 c = slash-some (c .before .before .before .args .text .now) (omega (arith, c .before .before .if1 .left)) (c .if2 .taken)
 
@@ -19,4 +16,4 @@ returns-3 : tie.Need-returns-3
 returns-3 c = slash-other (c .before .before .before .args .text .now) (omega (arith, c .before .before .if1 .left)) (c .if2 .left)
 
 pub slash-end-spec : {M : Type 1} → statement M
-slash-end-spec = tie.close (tie.spec returns shared-slice-read-if2 returns-2 returns-3)
+slash-end-spec = tie.close (tie.spec returns (λ c. search needs) returns-2 returns-3)

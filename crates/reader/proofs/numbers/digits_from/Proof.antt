@@ -30,9 +30,6 @@ returns-2 c = end-high (c .before .before .before .before .before .before .args 
 with-digit-requires : tie.Need-with-digit-requires Inv-loop μ-loop
 with-digit-requires c κs = (c .before .before .before .before .loop .inv .low, c .before .if1 .left)
 
-add-i : tie.Need-add-i Inv-loop μ-loop
-add-i c = search needs
-
 loop-less : tie.Need-loop-less Inv-loop μ-loop
 loop-less c = omega (arith, c .before .before .before .before .loop-test .taken)
 
@@ -53,7 +50,7 @@ digits-from-spec =
     returns
     returns-2
     with-digit-requires
-    add-i
+    (λ c. search needs)
     loop-less
     loop-again
     returns-3)

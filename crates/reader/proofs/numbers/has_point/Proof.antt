@@ -11,11 +11,8 @@ use Rattle.reader.proofs.numbers.has_point.Lts as lts
 returns : tie.Need-returns
 returns c = rw (drop-of-length-le (c .before .args .text .now) (c .if1 .taken))
 
-shared-slice-read-result : tie.Need-shared-slice-read-result
-shared-slice-read-result c = search needs
-
 returns-2 : tie.Need-returns-2
 returns-2 c = eqb-swap (getD (c .before .before .args .text .now) (c .before .before .args .at) 0) 46 ∙ sym (point-by (c .before .before .args .text .now) (c .before .before .args .at) (c .before .if1 .left))
 
 pub has-point-spec : {M : Type 1} → statement M
-has-point-spec = tie.close (tie.spec returns shared-slice-read-result returns-2)
+has-point-spec = tie.close (tie.spec returns (λ c. search needs) returns-2)

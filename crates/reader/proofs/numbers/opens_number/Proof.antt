@@ -11,15 +11,9 @@ use Rattle.reader.proofs.numbers.is_numeric.Reads as is-numeric-reads
 returns : tie.Need-returns
 returns c = rw (drop-of-length-le (c .before .before .args .text .now) (c .if1 .taken))
 
-shared-slice-read-is-numeric : tie.Need-shared-slice-read-is-numeric
-shared-slice-read-is-numeric c = search needs
-
-is-numeric-requires : tie.Need-is-numeric-requires
-is-numeric-requires c κs = search needs
-
 returns-2 : tie.Need-returns-2
 returns-2 c = c .is-numeric .ensures ∙ sym (number-by (c .before .before .before .before .args .text .now) (c .before .before .before .before .args .at) (c .before .before .if1 .left))
 
 pub opens-number-spec : {M : Type 1} → statement M
 opens-number-spec =
-    tie.close (tie.spec returns shared-slice-read-is-numeric is-numeric-requires returns-2)
+    tie.close (tie.spec returns (λ c. search needs) (λ c κs. search needs) returns-2)

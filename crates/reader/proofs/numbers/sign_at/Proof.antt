@@ -8,15 +8,6 @@ use Rattle.reader.proofs.numbers.sign_at.Lts as lts
 returns : tie.Need-returns
 returns c = sign-past (c .before .args .text .now) (c .before .args .at) (c .before .pre) (c .if1 .taken)
 
-shared-slice-read-match : tie.Need-shared-slice-read-match
-shared-slice-read-match c = search needs
-
-add-t9 : tie.Need-add-t9
-add-t9 c = search needs
-
-add-t10 : tie.Need-add-t10
-add-t10 c = search needs
-
 returns-2 : tie.Need-returns-2
 returns-2 c = sign-plus (c .before .before .before .args .text .now) (c .before .before .before .args .at) (c .before .before .before .pre) (c .before .before .if1 .left) (c .match .keys1)
 
@@ -29,4 +20,4 @@ returns-4 c = sign-none (c .before .before .before .args .text .now) (c .before 
 pub sign-at-spec : {M : Type 1} → statement M
 sign-at-spec =
     tie.close
-    (tie.spec returns shared-slice-read-match add-t9 add-t10 returns-2 returns-3 returns-4)
+    (tie.spec returns (λ c. search needs) (λ c. search needs) (λ c. search needs) returns-2 returns-3 returns-4)

@@ -15,72 +15,6 @@ use Rattle.reader.proofs.spelling.operator_after.Reads as operator-afte
 returns : tie.Need-returns
 returns c = following-past (c .before .before .args .text .now) (c .before .before .args .at) (c .if1 .taken) (c .before .before .pre)
 
-shared-slice-read-match : tie.Need-shared-slice-read-match
-shared-slice-read-match c = search needs
-
-add-t13 : tie.Need-add-t13
-add-t13 c = search needs
-
-add-t15 : tie.Need-add-t15
-add-t15 c = search needs
-
-add-t17 : tie.Need-add-t17
-add-t17 c = search needs
-
-add-t19 : tie.Need-add-t19
-add-t19 c = search needs
-
-add-t21 : tie.Need-add-t21
-add-t21 c = search needs
-
-add-keyword : tie.Need-add-keyword
-add-keyword c = search needs
-
-slice-aggregate-keyword : tie.Need-slice-aggregate-keyword
-slice-aggregate-keyword c = search needs
-
-keyword-requires : tie.Need-keyword-requires
-keyword-requires c κs = search needs
-
-operator-after-requires : tie.Need-operator-after-requires
-operator-after-requires c κs = search needs
-
-add-keyword-2 : tie.Need-add-keyword-2
-add-keyword-2 c = search needs
-
-slice-aggregate-keyword-2 : tie.Need-slice-aggregate-keyword-2
-slice-aggregate-keyword-2 c = search needs
-
-keyword-requires-2 : tie.Need-keyword-requires-2
-keyword-requires-2 c κs = search needs
-
-operator-after-requires-2 : tie.Need-operator-after-requires-2
-operator-after-requires-2 c κs = search needs
-
-add-keyword-3 : tie.Need-add-keyword-3
-add-keyword-3 c = search needs
-
-slice-aggregate-keyword-3 : tie.Need-slice-aggregate-keyword-3
-slice-aggregate-keyword-3 c = search needs
-
-keyword-requires-3 : tie.Need-keyword-requires-3
-keyword-requires-3 c κs = search needs
-
-operator-after-requires-3 : tie.Need-operator-after-requires-3
-operator-after-requires-3 c κs = search needs
-
-add-keyword-4 : tie.Need-add-keyword-4
-add-keyword-4 c = search needs
-
-slice-aggregate-keyword-4 : tie.Need-slice-aggregate-keyword-4
-slice-aggregate-keyword-4 c = search needs
-
-keyword-requires-4 : tie.Need-keyword-requires-4
-keyword-requires-4 c κs = search needs
-
-operator-after-requires-4 : tie.Need-operator-after-requires-4
-operator-after-requires-4 c κs = search needs
-
 returns-2 : tie.Need-returns-2
 returns-2 c = following-mark (c .before .before .before .before .args .text .now) (c .before .before .before .before .args .at) (c .before .before .if1 .left) 93 close Close refl (λ p. refl) (c .match .keys1)
 
@@ -116,28 +50,28 @@ following-at-spec =
     tie.close
     (tie.spec
     returns
-    shared-slice-read-match
-    add-t13
-    add-t15
-    add-t17
-    add-t19
-    add-t21
-    add-keyword
-    slice-aggregate-keyword
-    keyword-requires
-    operator-after-requires
-    add-keyword-2
-    slice-aggregate-keyword-2
-    keyword-requires-2
-    operator-after-requires-2
-    add-keyword-3
-    slice-aggregate-keyword-3
-    keyword-requires-3
-    operator-after-requires-3
-    add-keyword-4
-    slice-aggregate-keyword-4
-    keyword-requires-4
-    operator-after-requires-4
+    (λ c. search needs)
+    (λ c. search needs)
+    (λ c. search needs)
+    (λ c. search needs)
+    (λ c. search needs)
+    (λ c. search needs)
+    (λ c. search needs)
+    (λ c. search needs)
+    (λ c κs. search needs)
+    (λ c κs. search needs)
+    (λ c. search needs)
+    (λ c. search needs)
+    (λ c κs. search needs)
+    (λ c κs. search needs)
+    (λ c. search needs)
+    (λ c. search needs)
+    (λ c κs. search needs)
+    (λ c κs. search needs)
+    (λ c. search needs)
+    (λ c. search needs)
+    (λ c κs. search needs)
+    (λ c κs. search needs)
     returns-2
     returns-3
     returns-4

@@ -4,12 +4,6 @@ use Rattle.reader.proofs.spelling.function_after.Tie as tie
 use Rattle.reader.proofs.spelling.function_after.Reads as reads
 use Rattle.reader.proofs.spelling.function_after.Lts as lts
 
-enum-known-word : tie.Need-enum-known-word
-enum-known-word c = search needs
-
-enum-known-word-2 : tie.Need-enum-known-word-2
-enum-known-word-2 c = search needs
-
 returns : tie.Need-returns
 returns c = rw (c .before .word .given .1)
 
@@ -17,4 +11,4 @@ returns-2 : tie.Need-returns-2
 returns-2 c = rw (c .before .word2 .given .1)
 
 pub function-after-spec : {M : Type 1} → statement M
-function-after-spec = tie.close (tie.spec enum-known-word enum-known-word-2 returns returns-2)
+function-after-spec = tie.close (tie.spec (λ c. search needs) (λ c. search needs) returns returns-2)

@@ -41,9 +41,6 @@ add-t13 c = let h = c .before .before .before .before .before .loop .inv .within
 returns-2 : tie.Need-returns-2 Inv-loop μ-loop
 returns-2 c = along-miss (c .before .before .before .before .before .before .args .text .now) (c .before .before .before .before .before .before .args .at) (c .before .before .before .before .before .before .args .word .now) (c .before .before .before .before .before .loop .inv) (c .before .before .before .before .loop-test .taken) (omega (arith, c .before .before .before .if1 .left)) (c .if2 .taken)
 
-add-i : tie.Need-add-i Inv-loop μ-loop
-add-i c = search needs
-
 loop-less : tie.Need-loop-less Inv-loop μ-loop
 loop-less c = omega (arith, c .before .before .before .before .loop-test .taken)
 
@@ -71,7 +68,7 @@ keyword-spec =
     shared-slice-read-if2-2
     add-t13
     returns-2
-    add-i
+    (λ c. search needs)
     loop-less
     loop-again
     add-t14

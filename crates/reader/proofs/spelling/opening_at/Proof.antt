@@ -16,45 +16,6 @@ use Rattle.reader.proofs.spelling.keyword.Reads as keyword-reads
 returns : tie.Need-returns
 returns c = opening-past (c .before .before .args .text .now) (c .before .before .args .at) (c .if1 .taken) (c .before .before .pre)
 
-shared-slice-read-match : tie.Need-shared-slice-read-match
-shared-slice-read-match c = search needs
-
-add-t11 : tie.Need-add-t11
-add-t11 c = search needs
-
-add-t12 : tie.Need-add-t12
-add-t12 c = search needs
-
-add-keyword : tie.Need-add-keyword
-add-keyword c = search needs
-
-slice-aggregate-keyword : tie.Need-slice-aggregate-keyword
-slice-aggregate-keyword c = search needs
-
-keyword-requires : tie.Need-keyword-requires
-keyword-requires c κs = search needs
-
-function-after-requires : tie.Need-function-after-requires
-function-after-requires c κs = search needs
-
-add-fix-or-fup : tie.Need-add-fix-or-fup
-add-fix-or-fup c = search needs
-
-fix-or-fup-requires : tie.Need-fix-or-fup-requires
-fix-or-fup-requires c κs = search needs
-
-add-keyword-2 : tie.Need-add-keyword-2
-add-keyword-2 c = search needs
-
-slice-aggregate-keyword-2 : tie.Need-slice-aggregate-keyword-2
-slice-aggregate-keyword-2 c = search needs
-
-keyword-requires-2 : tie.Need-keyword-requires-2
-keyword-requires-2 c κs = search needs
-
-function-after-requires-2 : tie.Need-function-after-requires-2
-function-after-requires-2 c κs = search needs
-
 returns-2 : tie.Need-returns-2
 returns-2 c = opening-mark (c .before .before .before .before .args .text .now) (c .before .before .before .before .args .at) (c .before .before .if1 .left) 35 hash Parameter refl (λ p. refl) (c .match .keys1)
 
@@ -78,19 +39,19 @@ opening-at-spec =
     tie.close
     (tie.spec
     returns
-    shared-slice-read-match
-    add-t11
-    add-t12
-    add-keyword
-    slice-aggregate-keyword
-    keyword-requires
-    function-after-requires
-    add-fix-or-fup
-    fix-or-fup-requires
-    add-keyword-2
-    slice-aggregate-keyword-2
-    keyword-requires-2
-    function-after-requires-2
+    (λ c. search needs)
+    (λ c. search needs)
+    (λ c. search needs)
+    (λ c. search needs)
+    (λ c. search needs)
+    (λ c κs. search needs)
+    (λ c κs. search needs)
+    (λ c. search needs)
+    (λ c κs. search needs)
+    (λ c. search needs)
+    (λ c. search needs)
+    (λ c κs. search needs)
+    (λ c κs. search needs)
     returns-2
     returns-3
     returns-4

@@ -8,21 +8,12 @@ use Rattle.reader.proofs.terms.is_high.Reads as is-high-reads
 use Rattle.reader.proofs.terms.settled.Reads as settled-reads
 use Rattle.value.proofs.work.Reads as work-reads
 
-is-high-requires : tie.Need-is-high-requires
-is-high-requires c κs = search needs
-
-work-requires : tie.Need-work-requires
-work-requires c κs = search needs
-
 returns : tie.Need-returns
 returns c = rw (c .work .ensures, sym (c .before .before .is-high .ensures) ∙ c .before .if1 .taken)
-
-settled-requires : tie.Need-settled-requires
-settled-requires c κs = search needs
 
 returns-2 : tie.Need-returns-2
 returns-2 c = rw (c .settled .ensures, sym (c .before .before .is-high .ensures) ∙ c .before .if1 .left)
 
 pub pushed-spec : {M : Type 1} → statement M
 pushed-spec =
-    tie.close (tie.spec is-high-requires work-requires returns settled-requires returns-2)
+    tie.close (tie.spec (λ c κs. search needs) (λ c κs. search needs) returns (λ c κs. search needs) returns-2)

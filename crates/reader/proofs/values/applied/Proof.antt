@@ -5,15 +5,6 @@ use Rattle.reader.proofs.values.applied.Reads as reads
 use Rattle.reader.proofs.values.applied.Lts as lts
 use Rattle.value.proofs.apply.Reads as apply-reads
 
-enum-known-argument : tie.Need-enum-known-argument
-enum-known-argument c = search needs
-
-apply-requires : tie.Need-apply-requires
-apply-requires c κs = search needs
-
-enum-known-argument-2 : tie.Need-enum-known-argument-2
-enum-known-argument-2 c = search needs
-
 returns : tie.Need-returns
 returns c = rw (c .apply .ensures, c .before .before .argument .given .1)
 
@@ -22,4 +13,4 @@ returns-2 c = rw (c .before .argument2 .given .1)
 
 pub applied-spec : {M : Type 1} → statement M
 applied-spec =
-    tie.close (tie.spec enum-known-argument apply-requires enum-known-argument-2 returns returns-2)
+    tie.close (tie.spec (λ c. search needs) (λ c κs. search needs) (λ c. search needs) returns returns-2)

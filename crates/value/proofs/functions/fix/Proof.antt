@@ -4,18 +4,6 @@ use borrow.Author.Needs.{needs}
 use Rattle.value.proofs.functions.fix.Statement.{statement}
 use Rattle.value.proofs.functions.fix.Tie as tie
 
-is-below-zero-requires : tie.Need-is-below-zero-requires
-is-below-zero-requires c κs = search needs
-
-size-requires : tie.Need-size-requires
-size-requires c κs = search needs
-
-down-to-requires : tie.Need-down-to-requires
-down-to-requires c κs = search needs
-
-ranged-signed-requires : tie.Need-ranged-signed-requires
-ranged-signed-requires c κs = search needs
-
 returns : tie.Need-returns
 returns c =
     let s = c .before .before .before in
@@ -25,4 +13,4 @@ returns c =
 pub fix-spec : {M : Type 1} → statement M
 fix-spec =
     tie.close
-    (tie.spec is-below-zero-requires size-requires down-to-requires ranged-signed-requires returns)
+    (tie.spec (λ c κs. search needs) (λ c κs. search needs) (λ c κs. search needs) (λ c κs. search needs) returns)

@@ -7,27 +7,6 @@ use Rattle.value.proofs.functions.function.Tie as tie
 enum-told : tie.Need-enum-told
 enum-told c = search needs
 
-absolute-requires : tie.Need-absolute-requires
-absolute-requires c κs = search needs
-
-enum-told-2 : tie.Need-enum-told-2
-enum-told-2 c = search needs
-
-fix-requires : tie.Need-fix-requires
-fix-requires c κs = search needs
-
-enum-told-3 : tie.Need-enum-told-3
-enum-told-3 c = search needs
-
-fup-requires : tie.Need-fup-requires
-fup-requires c κs = search needs
-
-enum-told-4 : tie.Need-enum-told-4
-enum-told-4 c = search needs
-
-round-requires : tie.Need-round-requires
-round-requires c κs = search needs
-
 returns : tie.Need-returns
 unfolding function
 returns c = c .absolute .ensures ∙ rw (c .before .enum-told .given .1)
@@ -49,13 +28,13 @@ function-spec =
     tie.close
     (tie.spec
     enum-told
-    absolute-requires
-    enum-told-2
-    fix-requires
-    enum-told-3
-    fup-requires
-    enum-told-4
-    round-requires
+    (λ c κs. search needs)
+    (λ c. search needs)
+    (λ c κs. search needs)
+    (λ c. search needs)
+    (λ c κs. search needs)
+    (λ c. search needs)
+    (λ c κs. search needs)
     returns
     returns-2
     returns-3

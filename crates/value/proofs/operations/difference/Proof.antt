@@ -9,13 +9,10 @@ sub-t3 c =
     let (p, q) = c .before .before .before .before .pre in
     simp (back-w p tt, back-w q tt) (fits-w (within-diff p q) tt)
 
-ranged-requires : tie.Need-ranged-requires
-ranged-requires c κs = search needs
-
 returns : tie.Need-returns
 returns c =
     let (p, q) = c .before .before .before .before .before .pre in
     c .ranged .ensures ∙ simp (back-w p tt, back-w q tt, back-w (within-diff p q) tt)
 
 pub difference-spec : {M : Type 1} → statement M
-difference-spec = tie.close (tie.spec sub-t3 ranged-requires returns)
+difference-spec = tie.close (tie.spec sub-t3 (λ c κs. search needs) returns)

@@ -4,23 +4,8 @@ use Rattle.value.proofs.Sizes.{modulo-is, no-divisor}
 use Rattle.value.proofs.operations.modulo.Statement.{statement}
 use Rattle.value.proofs.operations.modulo.Tie as tie
 
-size-requires : tie.Need-size-requires
-size-requires c κs = search needs
-
 returns : tie.Need-returns
 returns c = no-divisor (c .before .before .args .b .0) _ (c .before .size .ensures) (c .if1 .taken)
-
-is-below-zero-requires : tie.Need-is-below-zero-requires
-is-below-zero-requires c κs = search needs
-
-size-requires-2 : tie.Need-size-requires-2
-size-requires-2 c κs = search needs
-
-left-over-requires : tie.Need-left-over-requires
-left-over-requires c κs = search needs
-
-ranged-signed-requires : tie.Need-ranged-signed-requires
-ranged-signed-requires c κs = search needs
 
 returns-2 : tie.Need-returns-2
 returns-2 c =
@@ -34,10 +19,10 @@ pub modulo-spec : {M : Type 1} → statement M
 modulo-spec =
     tie.close
     (tie.spec
-    size-requires
+    (λ c κs. search needs)
     returns
-    is-below-zero-requires
-    size-requires-2
-    left-over-requires
-    ranged-signed-requires
+    (λ c κs. search needs)
+    (λ c κs. search needs)
+    (λ c κs. search needs)
+    (λ c κs. search needs)
     returns-2)

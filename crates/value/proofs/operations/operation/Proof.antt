@@ -7,69 +7,6 @@ use Rattle.value.proofs.operations.operation.Tie as tie
 enum-told : tie.Need-enum-told
 enum-told c = search needs
 
-sum-requires : tie.Need-sum-requires
-sum-requires c κs = search needs
-
-enum-told-2 : tie.Need-enum-told-2
-enum-told-2 c = search needs
-
-difference-requires : tie.Need-difference-requires
-difference-requires c κs = search needs
-
-enum-told-3 : tie.Need-enum-told-3
-enum-told-3 c = search needs
-
-product-requires : tie.Need-product-requires
-product-requires c κs = search needs
-
-enum-told-4 : tie.Need-enum-told-4
-enum-told-4 c = search needs
-
-quotient-requires : tie.Need-quotient-requires
-quotient-requires c κs = search needs
-
-enum-told-5 : tie.Need-enum-told-5
-enum-told-5 c = search needs
-
-modulo-requires : tie.Need-modulo-requires
-modulo-requires c κs = search needs
-
-enum-told-6 : tie.Need-enum-told-6
-enum-told-6 c = search needs
-
-is-true-requires : tie.Need-is-true-requires
-is-true-requires c κs = search needs
-
-is-true-requires-2 : tie.Need-is-true-requires-2
-is-true-requires-2 c κs = search needs
-
-truth-requires : tie.Need-truth-requires
-truth-requires c κs = search needs
-
-enum-told-7 : tie.Need-enum-told-7
-enum-told-7 c = search needs
-
-is-true-requires-3 : tie.Need-is-true-requires-3
-is-true-requires-3 c κs = search needs
-
-is-true-requires-4 : tie.Need-is-true-requires-4
-is-true-requires-4 c κs = search needs
-
-truth-requires-2 : tie.Need-truth-requires-2
-truth-requires-2 c κs = search needs
-
-enum-told-8 : tie.Need-enum-told-8
-enum-told-8 c = search needs
-
-is-true-requires-5 : tie.Need-is-true-requires-5
-is-true-requires-5 c κs = search needs
-
-is-true-requires-6 : tie.Need-is-true-requires-6
-is-true-requires-6 c κs = search needs
-
-truth-requires-3 : tie.Need-truth-requires-3
-truth-requires-3 c κs = search needs
-
 returns : tie.Need-returns
 unfolding operation
 returns c = c .sum .ensures ∙ rw (c .before .enum-told .given .1)
@@ -107,27 +44,27 @@ operation-spec =
     tie.close
     (tie.spec
     enum-told
-    sum-requires
-    enum-told-2
-    difference-requires
-    enum-told-3
-    product-requires
-    enum-told-4
-    quotient-requires
-    enum-told-5
-    modulo-requires
-    enum-told-6
-    is-true-requires
-    is-true-requires-2
-    truth-requires
-    enum-told-7
-    is-true-requires-3
-    is-true-requires-4
-    truth-requires-2
-    enum-told-8
-    is-true-requires-5
-    is-true-requires-6
-    truth-requires-3
+    (λ c κs. search needs)
+    (λ c. search needs)
+    (λ c κs. search needs)
+    (λ c. search needs)
+    (λ c κs. search needs)
+    (λ c. search needs)
+    (λ c κs. search needs)
+    (λ c. search needs)
+    (λ c κs. search needs)
+    (λ c. search needs)
+    (λ c κs. search needs)
+    (λ c κs. search needs)
+    (λ c κs. search needs)
+    (λ c. search needs)
+    (λ c κs. search needs)
+    (λ c κs. search needs)
+    (λ c κs. search needs)
+    (λ c. search needs)
+    (λ c κs. search needs)
+    (λ c κs. search needs)
+    (λ c κs. search needs)
     returns
     returns-2
     returns-3

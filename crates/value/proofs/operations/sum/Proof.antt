@@ -9,13 +9,10 @@ add-t3 c =
     let (p, q) = c .before .before .before .before .pre in
     simp (back-w p tt, back-w q tt) (fits-w (within-sum p q) tt)
 
-ranged-requires : tie.Need-ranged-requires
-ranged-requires c κs = search needs
-
 returns : tie.Need-returns
 returns c =
     let (p, q) = c .before .before .before .before .before .pre in
     c .ranged .ensures ∙ simp (back-w p tt, back-w q tt, back-w (within-sum p q) tt)
 
 pub sum-spec : {M : Type 1} → statement M
-sum-spec = tie.close (tie.spec add-t3 ranged-requires returns)
+sum-spec = tie.close (tie.spec add-t3 (λ c κs. search needs) returns)

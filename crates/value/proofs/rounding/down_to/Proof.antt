@@ -4,9 +4,6 @@ use borrow.Author.Needs.{needs}
 use Rattle.value.proofs.rounding.down_to.Statement.{statement}
 use Rattle.value.proofs.rounding.down_to.Tie as tie
 
-left-over-requires : tie.Need-left-over-requires
-left-over-requires c κs = search needs
-
 add-result : tie.Need-add-result
 add-result c = omega (arith, c .before .left-over .ensures, residue-small (c .before .before .args .negative) (c .before .before .args .n))
 
@@ -20,4 +17,4 @@ returns-2 : tie.Need-returns-2
 returns-2 c = simp (c .before .left-over .ensures, c .if1 .left)
 
 pub down-to-spec : {M : Type 1} → statement M
-down-to-spec = tie.close (tie.spec left-over-requires add-result sub-result returns returns-2)
+down-to-spec = tie.close (tie.spec (λ c κs. search needs) add-result sub-result returns returns-2)

@@ -5,9 +5,6 @@ use borrow.Author.Needs.{needs}
 use Rattle.value.proofs.rounding.is_near.Statement.{statement}
 use Rattle.value.proofs.rounding.is_near.Tie as tie
 
-rem-over : tie.Need-rem-over
-rem-over c = search needs
-
 returns : tie.Need-returns
 returns c = near-below (c .before .args .n) (c .before .args .step) (c .before .pre) (c .if1 .taken)
 
@@ -18,4 +15,4 @@ returns-2 : tie.Need-returns-2
 returns-2 c = near-above (c .before .args .n) (c .before .args .step) (c .before .pre) (c .if1 .left)
 
 pub is-near-spec : {M : Type 1} → statement M
-is-near-spec = tie.close (tie.spec rem-over returns sub-result returns-2)
+is-near-spec = tie.close (tie.spec (λ c. search needs) returns sub-result returns-2)

@@ -7,18 +7,6 @@ use mathlib.Core.Path.{ap, _∙_}
 use Rattle.value.proofs.rounding.near_steps.Statement.{statement}
 use Rattle.value.proofs.rounding.near_steps.Tie as tie
 
-size-requires : tie.Need-size-requires
-size-requires c κs = search needs
-
-is-near-requires : tie.Need-is-near-requires
-is-near-requires c κs = search needs
-
-is-below-zero-requires : tie.Need-is-below-zero-requires
-is-below-zero-requires c κs = search needs
-
-rounded-requires : tie.Need-rounded-requires
-rounded-requires c κs = search needs
-
 signed-requires : tie.Need-signed-requires
 signed-requires c κs =
     let s = c .before .before .before .before in
@@ -39,10 +27,10 @@ pub near-steps-spec : {M : Type 1} → statement M
 near-steps-spec =
     tie.close
     (tie.spec
-    size-requires
-    is-near-requires
-    is-below-zero-requires
-    rounded-requires
+    (λ c κs. search needs)
+    (λ c κs. search needs)
+    (λ c κs. search needs)
+    (λ c κs. search needs)
     signed-requires
     returns
     returns-2)

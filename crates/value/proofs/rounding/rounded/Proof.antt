@@ -5,12 +5,6 @@ use borrow.Author.Needs.{needs}
 use Rattle.value.proofs.rounding.rounded.Statement.{statement}
 use Rattle.value.proofs.rounding.rounded.Tie as tie
 
-div-whole : tie.Need-div-whole
-div-whole c = search needs
-
-rem-rest : tie.Need-rem-rest
-rem-rest c = search needs
-
 sub-if1 : tie.Need-sub-if1
 sub-if1 c = omega (arith, mod-lt (c .args .n) (c .pre))
 
@@ -24,4 +18,4 @@ returns-2 : tie.Need-returns-2
 returns-2 c = nearest-up (c .before .args .n) (c .before .args .d) (c .before .pre) (c .if1 .left)
 
 pub rounded-spec : {M : Type 1} → statement M
-rounded-spec = tie.close (tie.spec div-whole rem-rest sub-if1 add-result returns returns-2)
+rounded-spec = tie.close (tie.spec (λ c. search needs) (λ c. search needs) sub-if1 add-result returns returns-2)

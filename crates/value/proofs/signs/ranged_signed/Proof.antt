@@ -6,9 +6,6 @@ use borrow.Author.Needs.{needs}
 use Rattle.value.proofs.signs.ranged_signed.Statement.{statement}
 use Rattle.value.proofs.signs.ranged_signed.Tie as tie
 
-signed-requires : tie.Need-signed-requires
-signed-requires c κs = search needs
-
 returns : tie.Need-returns
 returns c =
     ap (λ (z : ℤ). Good (record { 0 = z })) (c .signed .ensures) ∙ sym (signed-in (c .before .before .args .negative) (c .before .if1 .taken))
@@ -17,4 +14,4 @@ returns-2 : tie.Need-returns-2
 returns-2 c = sym (signed-out (c .before .args .negative) (c .if1 .left))
 
 pub ranged-signed-spec : {M : Type 1} → statement M
-ranged-signed-spec = tie.close (tie.spec signed-requires returns returns-2)
+ranged-signed-spec = tie.close (tie.spec (λ c κs. search needs) returns returns-2)

@@ -6,9 +6,6 @@ use borrow.Author.Needs.{needs}
 use Rattle.value.proofs.signs.signed.Statement.{statement}
 use Rattle.value.proofs.signs.signed.Tie as tie
 
-cast-z : tie.Need-cast-z
-cast-z c = search needs
-
 sub-t6 : tie.Need-sub-t6
 sub-t6 c =
     let n = c .before .args .size in
@@ -24,4 +21,4 @@ returns-2 : tie.Need-returns-2
 returns-2 c = simp (toZ-pos w64 {n = c .before .args .size} (c .before .pre), c .if1 .left)
 
 pub signed-spec : {M : Type 1} → statement M
-signed-spec = tie.close (tie.spec cast-z sub-t6 returns returns-2)
+signed-spec = tie.close (tie.spec (λ c. search needs) sub-t6 returns returns-2)

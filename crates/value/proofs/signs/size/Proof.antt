@@ -4,11 +4,8 @@ use borrow.Author.Needs.{needs}
 use Rattle.value.proofs.signs.size.Statement.{statement}
 use Rattle.value.proofs.signs.size.Tie as tie
 
-size-of-requires : tie.Need-size-of-requires
-size-of-requires c κs = search needs
-
 returns : tie.Need-returns
 returns c = let z = c .before .before .args .v .0 in c .size-of .ensures ∙ simp (back z (record { sfits = c .before .struct-told .given .0 .1 }))
 
 pub size-spec : {M : Type 1} → statement M
-size-spec = tie.close (tie.spec size-of-requires returns)
+size-spec = tie.close (tie.spec (λ c κs. search needs) returns)

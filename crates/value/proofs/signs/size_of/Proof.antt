@@ -18,9 +18,6 @@ cast-result-2 c = above-cast (c .before .fits .z) (c .if1 .left)
 returns : tie.Need-returns
 returns c = below-size (c .before .fits .z) (c .if1 .taken)
 
-returns-2 : tie.Need-returns-2
-returns-2 c = search needs
-
 pub size-of-spec : {M : Type 1} → statement M
 size-of-spec =
-    tie.close (tie.spec sub-result cast-result add-result cast-result-2 returns returns-2)
+    tie.close (tie.spec sub-result cast-result add-result cast-result-2 returns (λ c. search needs))

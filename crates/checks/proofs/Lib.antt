@@ -1,0 +1,5 @@
+pub mod Keys
+pub mod Tests
+pub mod Axes
+pub mod Modes
+pub mod Soles

@@ -1,4 +1,0 @@
-pub mod Mask
-pub mod Turns
-pub mod Apart
-pub mod Soles
