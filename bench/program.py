@@ -9,7 +9,7 @@ def lines(count):
     yield 'F1200 S8000 M3'
     yield 'N10 G1 X0 Y0 Z5 (start)'
     x, y = 0, 0  # thousandths, where the line before has gone
-    for n in range(3, count):
+    for n in range(3, count - 1):
         kind, z = n % 20, -(n * n % 331) / 100
         if kind == 11:
             yield f'#{100 + n % 50}=[{n % 800}.25*2 + #1/4] (offset)'
@@ -25,6 +25,7 @@ def lines(count):
             yield f'N{n % 100000} G1 X{x / 1000:.3f} Y{y / 1000:.3f} Z{z:.4f} F{300 + n % 90}'
         else:
             yield f'G1 X{x / 1000:.3f} Y{y / 1000:.3f} Z{z:.3f}'
+    yield 'M2'
 
 
 def main():
