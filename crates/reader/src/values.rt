@@ -2,7 +2,9 @@
 // to: a refusal is carried like a value, and the form is read on.
 ghost use mathlib.Core.Path.{_≡_};
 ghost use Prim.Native.Nat.{_≤_};
-ghost use lib.ListN.{length};
+ghost use lib.ListN.{length, drop};
+ghost use mathlib.Core.Bool.{false};
+ghost use Rattle.grammar.proofs.Read.{opensNumber};
 ghost use Rattle.grammar.proofs.Place.{valueP, exprP, restP};
 ghost use Rattle.reader.specs.Pass.{pass};
 ghost use Rattle.reader.specs.Places.{valued, lookedUp, appliedTo};
@@ -44,7 +46,8 @@ fn applied(f: Func, argument: Valued) -> Valued
     }
 }
 
-// A number; `#` and a value; a function of an expression; or an expression.
+// A number, or what else a value may be: that lends text and table on, and stands in a function of its
+// own, so that a number, as most values are, does not pay for it.
 pub(crate) fn value_at(text: &[u8], table: &[i64], at: usize) -> Valued
     requires { ⌜ at ≤ length (now text) ⌝ }
     ensures { λ r. ⌜ r ≡ valued (valueP (pass (now (table .entry))) (now (text .entry)) at) ⌝ }
@@ -52,6 +55,14 @@ pub(crate) fn value_at(text: &[u8], table: &[i64], at: usize) -> Valued
     if opens_number(text, at) {
         return number_at(text, at);
     }
+    other_value_at(text, table, at)
+}
+
+// `#` and a value; a function of an expression; or an expression.
+fn other_value_at(text: &[u8], table: &[i64], at: usize) -> Valued
+    requires { ⌜ (at ≤ length (now text)) × (opensNumber (drop at (now text)) ≡ false) ⌝ }
+    ensures { λ r. ⌜ r ≡ valued (valueP (pass (now (table .entry))) (now (text .entry)) at) ⌝ }
+{
     match opening_at(text, at) {
         Opening::Parameter(p) => looked_up(table, value_at(text, table, p)),
         Opening::Bracket(p) => expression_at(text, table, p),

@@ -9,13 +9,16 @@ use borrow.Fn.Kinds.{In}
 use borrow.Fn.PlainCycle.{Measures, is, falls, and}
 use Rattle.reader.proofs.values.expression_at.Reads as expression-at
 use Rattle.reader.proofs.values.expression_at.Kinds as expression-at-kinds
-use Rattle.reader.proofs.values.+expression_at+rest_at+value_at.Lts-expression_at as expression-at-lts
+use Rattle.reader.proofs.values.+expression_at+other_value_at+rest_at+value_at.Lts-expression_at as expression-at-lts
+use Rattle.reader.proofs.values.other_value_at.Reads as other-value-at
+use Rattle.reader.proofs.values.other_value_at.Kinds as other-value-at-kinds
+use Rattle.reader.proofs.values.+expression_at+other_value_at+rest_at+value_at.Lts-other_value_at as other-value-at-lts
 use Rattle.reader.proofs.values.rest_at.Reads as rest-at
 use Rattle.reader.proofs.values.rest_at.Kinds as rest-at-kinds
-use Rattle.reader.proofs.values.+expression_at+rest_at+value_at.Lts-rest_at as rest-at-lts
+use Rattle.reader.proofs.values.+expression_at+other_value_at+rest_at+value_at.Lts-rest_at as rest-at-lts
 use Rattle.reader.proofs.values.value_at.Reads as value-at
 use Rattle.reader.proofs.values.value_at.Kinds as value-at-kinds
-use Rattle.reader.proofs.values.+expression_at+rest_at+value_at.Lts-value_at as value-at-lts
+use Rattle.reader.proofs.values.+expression_at+other_value_at+rest_at+value_at.Lts-value_at as value-at-lts
 use Rattle.reader.proofs.numbers.number_at.Reads as number-at-reads
 use Rattle.reader.proofs.numbers.opens_number.Reads as opens-number-reads
 use Rattle.reader.proofs.spelling.following_at.Reads as following-at-reads
@@ -24,17 +27,20 @@ use Rattle.reader.proofs.terms.pushed.Reads as pushed-reads
 use Rattle.reader.proofs.terms.settled.Reads as settled-reads
 use Rattle.reader.proofs.values.applied.Reads as applied-reads
 use Rattle.reader.proofs.values.looked_up.Reads as looked-up-reads
-use Rattle.reader.proofs.values.+expression_at+rest_at+value_at.{statement}
-use Rattle.reader.proofs.values.+expression_at+rest_at+value_at.Tie.{close}
+use Rattle.reader.proofs.values.+expression_at+other_value_at+rest_at+value_at.{statement}
+use Rattle.reader.proofs.values.+expression_at+other_value_at+rest_at+value_at.Tie.{close}
 
 abbrev μ-expression-at : Measures 2 expression-at-kinds.ps ℕ
-μ-expression-at κs a = 2 * (length (a .0 .now) - a .1 .1 .0) + 1
+μ-expression-at κs a = 3 * (length (a .0 .now) - a .1 .1 .0) + 2
+
+abbrev μ-other-value-at : Measures 2 other-value-at-kinds.ps ℕ
+μ-other-value-at κs a = 3 * (length (a .0 .now) - a .1 .1 .0)
 
 abbrev μ-rest-at : Measures 2 rest-at-kinds.ps ℕ
-μ-rest-at κs a = 2 * (length (a .0 .now) - a .1 .1 .0)
+μ-rest-at κs a = 3 * (length (a .0 .now) - a .1 .1 .0)
 
 abbrev μ-value-at : Measures 2 value-at-kinds.ps ℕ
-μ-value-at κs a = 2 * (length (a .0 .now) - a .1 .1 .0)
+μ-value-at κs a = 3 * (length (a .0 .now) - a .1 .1 .0) + 1
 
 abbrev expression-at-at : ℕ → In 2 expression-at-kinds.ps
 expression-at-at t =
@@ -47,6 +53,22 @@ expression-at-below t =
     expression-at-kinds.ps
     (falls 2 expression-at-kinds.ps _<_ μ-expression-at t)
     expression-at.Pre
+
+abbrev other-value-at-at : ℕ → In 2 other-value-at-kinds.ps
+other-value-at-at t =
+    and
+    2
+    other-value-at-kinds.ps
+    (is 2 other-value-at-kinds.ps μ-other-value-at t)
+    other-value-at.Pre
+
+abbrev other-value-at-below : ℕ → In 2 other-value-at-kinds.ps
+other-value-at-below t =
+    and
+    2
+    other-value-at-kinds.ps
+    (falls 2 other-value-at-kinds.ps _<_ μ-other-value-at t)
+    other-value-at.Pre
 
 abbrev rest-at-at : ℕ → In 2 rest-at-kinds.ps
 rest-at-at t = and 2 rest-at-kinds.ps (is 2 rest-at-kinds.ps μ-rest-at t) rest-at.Pre
@@ -81,6 +103,55 @@ expression-at-returns t c = expression-rest (c .before .before .before .before .
 
 expression-at-returns-2 : (t : ℕ) → expression-at-lts.Need-returns-2 (expression-at-calls t) (expression-at-at t) expression-at.Post
 expression-at-returns-2 t c = expression-none (c .before .before .before .before .before .args .table .now) (c .before .before .before .before .before .args .text .now) (c .before .before .before .before .before .args .at) (rw (c .before .p .given .1) at (c .before .before .before .value-at .ensures))
+
+abbrev other-value-at-calls : ℕ → other-value-at-lts.Claims
+other-value-at-calls t = (opening-at-reads.Asked, opening-at-reads.Learnt, value-at-below t, value-at.Post, looked-up-reads.Asked, looked-up-reads.Learnt, expression-at-below t, expression-at.Post, applied-reads.Asked, applied-reads.Learnt)
+
+abbrev value-at-calls : ℕ → value-at-lts.Claims
+value-at-calls t = (opens-number-reads.Asked, opens-number-reads.Learnt, number-at-reads.Asked, number-at-reads.Learnt, other-value-at-below t, other-value-at.Post)
+
+other-value-at-opening-at-requires : (t : ℕ) → other-value-at-lts.Need-opening-at-requires (other-value-at-calls t) (other-value-at-at t) other-value-at.Post
+other-value-at-opening-at-requires t c κs = c .before .pre .1 .0
+
+other-value-at-enum-known-p : (t : ℕ) → other-value-at-lts.Need-enum-known-p (other-value-at-calls t) (other-value-at-at t) other-value-at.Post
+other-value-at-enum-known-p t c = search needs
+
+other-value-at-value-at-requires : (t : ℕ) → other-value-at-lts.Need-value-at-requires (other-value-at-calls t) (other-value-at-at t) other-value-at.Post
+other-value-at-value-at-requires t c κs = let k = parameter-end (c .before .before .before .before .before .args .text .now) (c .before .before .before .before .before .args .at) (c .before .before .before .before .before .pre .1 .0) (rw (c .before .p .given .1) at (c .before .before .before .opening-at .ensures)) in (omega (arith, k, c .before .before .before .before .before .pre .0), k .1)
+
+other-value-at-looked-up-requires : (t : ℕ) → other-value-at-lts.Need-looked-up-requires (other-value-at-calls t) (other-value-at-at t) other-value-at.Post
+other-value-at-looked-up-requires t c κs = search needs
+
+other-value-at-enum-known-p-2 : (t : ℕ) → other-value-at-lts.Need-enum-known-p-2 (other-value-at-calls t) (other-value-at-at t) other-value-at.Post
+other-value-at-enum-known-p-2 t c = search needs
+
+other-value-at-expression-at-requires : (t : ℕ) → other-value-at-lts.Need-expression-at-requires (other-value-at-calls t) (other-value-at-at t) other-value-at.Post
+other-value-at-expression-at-requires t c κs = let k = bracket-end (c .before .before .before .before .before .args .text .now) (c .before .before .before .before .before .args .at) (c .before .before .before .before .before .pre .1 .0) (rw (c .before .p2 .given .1) at (c .before .before .before .opening-at .ensures)) in (omega (arith, k, c .before .before .before .before .before .pre .0), k .1)
+
+other-value-at-enum-known-f : (t : ℕ) → other-value-at-lts.Need-enum-known-f (other-value-at-calls t) (other-value-at-at t) other-value-at.Post
+other-value-at-enum-known-f t c = search needs
+
+other-value-at-expression-at-requires-2 :
+    (t : ℕ) → other-value-at-lts.Need-expression-at-requires-2 (other-value-at-calls t) (other-value-at-at t) other-value-at.Post
+other-value-at-expression-at-requires-2 t c κs = let k = function-end (c .before .before .before .before .before .args .text .now) (c .before .before .before .before .before .args .at) (c .before .before .before .before .before .pre .1 .0) (rw (c .before .f .given .1) at (c .before .before .before .opening-at .ensures)) in (omega (arith, k, c .before .before .before .before .before .pre .0), k .1)
+
+other-value-at-applied-requires : (t : ℕ) → other-value-at-lts.Need-applied-requires (other-value-at-calls t) (other-value-at-at t) other-value-at.Post
+other-value-at-applied-requires t c κs = search needs
+
+other-value-at-enum-known-p-3 : (t : ℕ) → other-value-at-lts.Need-enum-known-p-3 (other-value-at-calls t) (other-value-at-at t) other-value-at.Post
+other-value-at-enum-known-p-3 t c = search needs
+
+other-value-at-returns : (t : ℕ) → other-value-at-lts.Need-returns (other-value-at-calls t) (other-value-at-at t) other-value-at.Post
+other-value-at-returns t c = value-parameter (c .before .before .before .before .before .before .before .args .table .now) (c .before .before .before .before .before .before .before .args .text .now) (c .before .before .before .before .before .before .before .args .at) (c .before .before .before .before .before .before .before .pre .1 .1) (rw (c .before .before .before .p .given .1) at (c .before .before .before .before .before .opening-at .ensures)) (c .before .value-at .ensures) (c .looked-up .ensures)
+
+other-value-at-returns-2 : (t : ℕ) → other-value-at-lts.Need-returns-2 (other-value-at-calls t) (other-value-at-at t) other-value-at.Post
+other-value-at-returns-2 t c = value-bracket (c .before .before .before .before .before .before .args .table .now) (c .before .before .before .before .before .before .args .text .now) (c .before .before .before .before .before .before .args .at) (c .before .before .before .before .before .before .pre .1 .1) (rw (c .before .before .p2 .given .1) at (c .before .before .before .before .opening-at .ensures)) (c .expression-at .ensures)
+
+other-value-at-returns-3 : (t : ℕ) → other-value-at-lts.Need-returns-3 (other-value-at-calls t) (other-value-at-at t) other-value-at.Post
+other-value-at-returns-3 t c = value-function (c .before .before .before .before .before .before .before .args .table .now) (c .before .before .before .before .before .before .before .args .text .now) (c .before .before .before .before .before .before .before .args .at) (c .before .before .before .before .before .before .before .pre .1 .1) (rw (c .before .before .before .f .given .1) at (c .before .before .before .before .before .opening-at .ensures)) (c .before .expression-at2 .ensures) (c .applied .ensures)
+
+other-value-at-returns-4 : (t : ℕ) → other-value-at-lts.Need-returns-4 (other-value-at-calls t) (other-value-at-at t) other-value-at.Post
+other-value-at-returns-4 t c = value-none (c .before .before .before .before .before .args .table .now) (c .before .before .before .before .before .args .text .now) (c .before .before .before .before .before .args .at) (c .before .before .before .before .before .pre .1 .1) (rw (c .before .p3 .given .1) at (c .before .before .before .opening-at .ensures))
 
 abbrev rest-at-calls : ℕ → rest-at-lts.Claims
 rest-at-calls t = (following-at-reads.Asked, following-at-reads.Learnt, settled-reads.Asked, settled-reads.Learnt, value-at-below t, value-at.Post, pushed-reads.Asked, pushed-reads.Learnt, rest-at-below t, rest-at.Post)
@@ -127,9 +198,6 @@ rest-at-returns-3 t c = rest-wrong (c .before .before .before .before .before .b
 rest-at-returns-4 : (t : ℕ) → rest-at-lts.Need-returns-4 (rest-at-calls t) (rest-at-at t) rest-at.Post
 rest-at-returns-4 t c = rest-none (c .before .before .before .before .before .args .table .now) (c .before .before .before .before .before .args .text .now) (c .before .before .before .before .before .args .at) (c .before .before .before .before .before .args .state) (rw (c .before .p2 .given .1) at (c .before .before .before .following-at .ensures))
 
-abbrev value-at-calls : ℕ → value-at-lts.Claims
-value-at-calls t = (opens-number-reads.Asked, opens-number-reads.Learnt, number-at-reads.Asked, number-at-reads.Learnt, opening-at-reads.Asked, opening-at-reads.Learnt, value-at-below t, value-at.Post, looked-up-reads.Asked, looked-up-reads.Learnt, expression-at-below t, expression-at.Post, applied-reads.Asked, applied-reads.Learnt)
-
 value-at-opens-number-requires : (t : ℕ) → value-at-lts.Need-opens-number-requires (value-at-calls t) (value-at-at t) value-at.Post
 value-at-opens-number-requires t c κs = search needs
 
@@ -139,51 +207,15 @@ value-at-number-at-requires t c κs = c .before .before .before .pre .1
 value-at-returns : (t : ℕ) → value-at-lts.Need-returns (value-at-calls t) (value-at-at t) value-at.Post
 value-at-returns t c = value-number (c .before .before .before .before .args .table .now) (c .before .before .before .before .args .text .now) (c .before .before .before .before .args .at) (sym (c .before .before .opens-number .ensures) ∙ c .before .if1 .taken) (c .number-at .ensures)
 
-value-at-opening-at-requires : (t : ℕ) → value-at-lts.Need-opening-at-requires (value-at-calls t) (value-at-at t) value-at.Post
-value-at-opening-at-requires t c κs = c .before .before .before .pre .1
-
-value-at-enum-known-p : (t : ℕ) → value-at-lts.Need-enum-known-p (value-at-calls t) (value-at-at t) value-at.Post
-value-at-enum-known-p t c = search needs
-
-value-at-value-at-requires : (t : ℕ) → value-at-lts.Need-value-at-requires (value-at-calls t) (value-at-at t) value-at.Post
-value-at-value-at-requires t c κs = let k = parameter-end (c .before .before .before .before .before .before .before .args .text .now) (c .before .before .before .before .before .before .before .args .at) (c .before .before .before .before .before .before .before .pre .1) (rw (c .before .p .given .1) at (c .before .before .before .opening-at .ensures)) in (omega (arith, k, c .before .before .before .before .before .before .before .pre .0), k .1)
-
-value-at-looked-up-requires : (t : ℕ) → value-at-lts.Need-looked-up-requires (value-at-calls t) (value-at-at t) value-at.Post
-value-at-looked-up-requires t c κs = search needs
-
-value-at-enum-known-p-2 : (t : ℕ) → value-at-lts.Need-enum-known-p-2 (value-at-calls t) (value-at-at t) value-at.Post
-value-at-enum-known-p-2 t c = search needs
-
-value-at-expression-at-requires : (t : ℕ) → value-at-lts.Need-expression-at-requires (value-at-calls t) (value-at-at t) value-at.Post
-value-at-expression-at-requires t c κs = let k = bracket-end (c .before .before .before .before .before .before .before .args .text .now) (c .before .before .before .before .before .before .before .args .at) (c .before .before .before .before .before .before .before .pre .1) (rw (c .before .p2 .given .1) at (c .before .before .before .opening-at .ensures)) in (omega (arith, k, c .before .before .before .before .before .before .before .pre .0), k .1)
-
-value-at-enum-known-f : (t : ℕ) → value-at-lts.Need-enum-known-f (value-at-calls t) (value-at-at t) value-at.Post
-value-at-enum-known-f t c = search needs
-
-value-at-expression-at-requires-2 : (t : ℕ) → value-at-lts.Need-expression-at-requires-2 (value-at-calls t) (value-at-at t) value-at.Post
-value-at-expression-at-requires-2 t c κs = let k = function-end (c .before .before .before .before .before .before .before .args .text .now) (c .before .before .before .before .before .before .before .args .at) (c .before .before .before .before .before .before .before .pre .1) (rw (c .before .f .given .1) at (c .before .before .before .opening-at .ensures)) in (omega (arith, k, c .before .before .before .before .before .before .before .pre .0), k .1)
-
-value-at-applied-requires : (t : ℕ) → value-at-lts.Need-applied-requires (value-at-calls t) (value-at-at t) value-at.Post
-value-at-applied-requires t c κs = search needs
-
-value-at-enum-known-p-3 : (t : ℕ) → value-at-lts.Need-enum-known-p-3 (value-at-calls t) (value-at-at t) value-at.Post
-value-at-enum-known-p-3 t c = search needs
+value-at-other-value-at-requires : (t : ℕ) → value-at-lts.Need-other-value-at-requires (value-at-calls t) (value-at-at t) value-at.Post
+value-at-other-value-at-requires t c κs = (omega (arith, c .before .before .before .pre .0), (c .before .before .before .pre .1, sym (c .before .opens-number .ensures) ∙ c .if1 .left))
 
 value-at-returns-2 : (t : ℕ) → value-at-lts.Need-returns-2 (value-at-calls t) (value-at-at t) value-at.Post
-value-at-returns-2 t c = value-parameter (c .before .before .before .before .before .before .before .before .before .args .table .now) (c .before .before .before .before .before .before .before .before .before .args .text .now) (c .before .before .before .before .before .before .before .before .before .args .at) (sym (c .before .before .before .before .before .before .before .opens-number .ensures) ∙ c .before .before .before .before .before .before .if1 .left) (rw (c .before .before .before .p .given .1) at (c .before .before .before .before .before .opening-at .ensures)) (c .before .value-at .ensures) (c .looked-up .ensures)
+value-at-returns-2 t c = c .other-value-at .ensures
 
-value-at-returns-3 : (t : ℕ) → value-at-lts.Need-returns-3 (value-at-calls t) (value-at-at t) value-at.Post
-value-at-returns-3 t c = value-bracket (c .before .before .before .before .before .before .before .before .args .table .now) (c .before .before .before .before .before .before .before .before .args .text .now) (c .before .before .before .before .before .before .before .before .args .at) (sym (c .before .before .before .before .before .before .opens-number .ensures) ∙ c .before .before .before .before .before .if1 .left) (rw (c .before .before .p2 .given .1) at (c .before .before .before .before .opening-at .ensures)) (c .expression-at .ensures)
-
-value-at-returns-4 : (t : ℕ) → value-at-lts.Need-returns-4 (value-at-calls t) (value-at-at t) value-at.Post
-value-at-returns-4 t c = value-function (c .before .before .before .before .before .before .before .before .before .args .table .now) (c .before .before .before .before .before .before .before .before .before .args .text .now) (c .before .before .before .before .before .before .before .before .before .args .at) (sym (c .before .before .before .before .before .before .before .opens-number .ensures) ∙ c .before .before .before .before .before .before .if1 .left) (rw (c .before .before .before .f .given .1) at (c .before .before .before .before .before .opening-at .ensures)) (c .before .expression-at2 .ensures) (c .applied .ensures)
-
-value-at-returns-5 : (t : ℕ) → value-at-lts.Need-returns-5 (value-at-calls t) (value-at-at t) value-at.Post
-value-at-returns-5 t c = value-none (c .before .before .before .before .before .before .before .args .table .now) (c .before .before .before .before .before .before .before .args .text .now) (c .before .before .before .before .before .before .before .args .at) (sym (c .before .before .before .before .before .opens-number .ensures) ∙ c .before .before .before .before .if1 .left) (rw (c .before .p3 .given .1) at (c .before .before .before .opening-at .ensures))
-
-pub +expression-at+rest-at+value-at-spec : {M : Type 1} → statement M
-+expression-at+rest-at+value-at-spec =
-    close μ-expression-at μ-rest-at μ-value-at (λ t. expression-at-lts.spec (expression-at-calls t)
+pub +expression-at+other-value-at+rest-at+value-at-spec : {M : Type 1} → statement M
++expression-at+other-value-at+rest-at+value-at-spec =
+    close μ-expression-at μ-other-value-at μ-rest-at μ-value-at (λ t. expression-at-lts.spec (expression-at-calls t)
     (expression-at-at t)
     expression-at.Post
     (expression-at-value-at-requires t)
@@ -192,6 +224,23 @@ pub +expression-at+rest-at+value-at-spec : {M : Type 1} → statement M
     (expression-at-enum-known-p t)
     (expression-at-returns t)
     (expression-at-returns-2 t))
+    (λ t. other-value-at-lts.spec (other-value-at-calls t)
+    (other-value-at-at t)
+    other-value-at.Post
+    (other-value-at-opening-at-requires t)
+    (other-value-at-enum-known-p t)
+    (other-value-at-value-at-requires t)
+    (other-value-at-looked-up-requires t)
+    (other-value-at-enum-known-p-2 t)
+    (other-value-at-expression-at-requires t)
+    (other-value-at-enum-known-f t)
+    (other-value-at-expression-at-requires-2 t)
+    (other-value-at-applied-requires t)
+    (other-value-at-enum-known-p-3 t)
+    (other-value-at-returns t)
+    (other-value-at-returns-2 t)
+    (other-value-at-returns-3 t)
+    (other-value-at-returns-4 t))
     (λ t. rest-at-lts.spec (rest-at-calls t)
     (rest-at-at t)
     rest-at.Post
@@ -215,17 +264,5 @@ pub +expression-at+rest-at+value-at-spec : {M : Type 1} → statement M
     (value-at-opens-number-requires t)
     (value-at-number-at-requires t)
     (value-at-returns t)
-    (value-at-opening-at-requires t)
-    (value-at-enum-known-p t)
-    (value-at-value-at-requires t)
-    (value-at-looked-up-requires t)
-    (value-at-enum-known-p-2 t)
-    (value-at-expression-at-requires t)
-    (value-at-enum-known-f t)
-    (value-at-expression-at-requires-2 t)
-    (value-at-applied-requires t)
-    (value-at-enum-known-p-3 t)
+    (value-at-other-value-at-requires t)
     (value-at-returns-2 t)
-    (value-at-returns-3 t)
-    (value-at-returns-4 t)
-    (value-at-returns-5 t)
