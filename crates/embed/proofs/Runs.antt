@@ -2,12 +2,12 @@
 -- Assumes nothing.
 use mathlib.Core.Path.{_≡_, refl, ap, sym, _∙_}
 use mathlib.Core.List.{List, [], _∷_, _++_, append-assoc, append-nil, map}
-use Prim.Native.Nat.{ℕ, suc, _+_, _<_}
+use Prim.Native.Nat.{ℕ, suc, _+_, _≤_, _<_}
 use native.Mathlib.Nat.{zero-add}
 use native.Mathlib.Numerals.{add-one}
 use native.Mathlib.Omega.{arith}
 use lib.IntN.{ℤ, pos}
-use lib.ListN.{length, getD, set, take, drop, length-append, length-drop, length-map, drop-of-length-le}
+use lib.ListN.{length, getD, set, take, drop, length-append, length-drop, length-map, length-set, drop-of-length-le}
 use lib.Seq.{sets, sets-eq, take-suc, take-suc-set, take-all, length-take-le, getD-drop}
 use Rattle.rules.specs.Reach.{counts, nowhere}
 use Rattle.rules.specs.Commands.{numbers}
@@ -23,17 +23,25 @@ map-append f (x ∷ a) b = ap (λ (l : List _). f x ∷ l) (map-append f a b)
 abbrev number : Length → ℤ
 number l = l .0
 
--- ---- reading n lengths from a place on
-module _ (zs : List ℤ) (at : ℕ) (ls : List Length) (i : ℕ) where
-  pub read-next : i < length ls → at + i < length zs → take i ls ≡ lengthsAt zs at i → take (i + 1) (set ls i (counts (numberAt zs (at + i)))) ≡ lengthsAt zs at (i + 1)
-  read-next h k e =
-      rw (add-one i, take-suc-set ls i (counts (numberAt zs (at + i))) h, take-suc (drop at zs) i (pos 0) (omega (arith, length-drop at zs)), getD-drop at zs i (pos 0), e)
-      (sym (map-append counts (numbersAt zs at i) (numberAt zs (at + i) ∷ [])))
+-- ---- reading n lengths from a place on, of which i are passed: a turn, and the end
+abbrev pub Reading : ℕ → List ℤ → ℕ → List Length → ℕ → Type 0
+Reading n zs at ls i = (i ≤ n) × (length ls ≡ n) × (take i ls ≡ lengthsAt zs at i)
 
-  pub read-all : {n : ℕ} → length ls ≡ n → i ≡ n → take i ls ≡ lengthsAt zs at i → ls ≡ lengthsAt zs at n
-  read-all h k e = sym (take-all i ls (omega arith)) ∙ e ∙ ap (lengthsAt zs at) k
+module _ (n : ℕ) (zs : List ℤ) (at : ℕ) (ls : List Length) (i : ℕ) where
+  pub read-next : {l : Length} → at + n ≤ length zs → i < n → l ≡ counts (numberAt zs (at + i)) → Reading n zs at ls i → Reading n zs at (set ls i l) (i + 1)
+  read-next {l} room h e inv = (
+    omega arith,
+    length-set ls i l ∙ inv .1,
+    rw (e, add-one i, take-suc-set ls i (counts (numberAt zs (at + i))) (omega (arith, inv .1)), take-suc (drop at zs) i (pos 0) (omega (arith, length-drop at zs)), getD-drop at zs i (pos 0), inv .2)
+        (sym (map-append counts (numbersAt zs at i) (numberAt zs (at + i) ∷ []))),
+  )
 
--- ---- putting them
+  pub read-all : n ≤ i → Reading n zs at ls i → ls ≡ lengthsAt zs at n
+  read-all h inv =
+      let last : i ≡ n = omega (arith, inv .0) in
+      sym (take-all i ls (omega (arith, inv .1))) ∙ inv .2 ∙ ap (lengthsAt zs at) last
+
+-- ---- putting them, likewise
 pub sets-append : (a b l : List ℤ) (i : ℕ) → sets l i (a ++ b) ≡ sets (sets l i a) (i + length a) b
 sets-append [] b l i =
     let e : i + 0 ≡ i = omega arith in
@@ -42,16 +50,27 @@ sets-append (x ∷ a) b l i =
     let e : i + suc (length a) ≡ suc i + length a = omega arith in
     sets-append a b (set l i x) (suc i) ∙ ap (λ (k : ℕ). sets (sets (set l i x) (suc i) a) k b) (sym e)
 
-module _ (zs : List ℤ) (at : ℕ) (ls : List Length) (i : ℕ) where
-  pub put-next : i < length ls → sets zs at (numbers (take (i + 1) ls)) ≡ set (sets zs at (numbers (take i ls))) (at + i) (getD ls i nowhere .0)
-  put-next h =
+abbrev pub Putting : ℕ → List ℤ → ℕ → List Length → List ℤ → ℕ → Type 0
+Putting n zs at ls put i = (i ≤ n) × (length ls ≡ n) × (length put ≡ length zs) × (put ≡ sets zs at (numbers (take i ls)))
+
+module _ (n : ℕ) (zs : List ℤ) (at : ℕ) (ls : List Length) (put : List ℤ) (i : ℕ) where
+  one-more : i < length ls → sets zs at (numbers (take (i + 1) ls)) ≡ set (sets zs at (numbers (take i ls))) (at + i) (getD ls i nowhere .0)
+  one-more h =
       let first = numbers (take i ls) in
       let e : length first ≡ i = length-map (take i ls) number ∙ length-take-le i ls (omega arith) in
       rw (add-one i, take-suc ls i nowhere h, map-append number (take i ls) (getD ls i nowhere ∷ []))
       (sets-append first (getD ls i nowhere .0 ∷ []) zs at ∙ ap (λ (k : ℕ). set (sets zs at first) (at + k) (getD ls i nowhere .0)) e)
 
-  pub put-all : i ≡ length ls → sets zs at (numbers (take i ls)) ≡ sets zs at (numbers ls)
-  put-all h = rw (take-all i ls (omega arith))
+  pub put-next : {next : List ℤ} → i < n → next ≡ set put (at + i) (getD ls i nowhere .0) → Putting n zs at ls put i → Putting n zs at ls next (i + 1)
+  put-next h e inv = (
+    omega arith,
+    inv .1,
+    ap length e ∙ length-set put (at + i) (getD ls i nowhere .0) ∙ inv .2,
+    e ∙ ap (λ (l : List ℤ). set l (at + i) (getD ls i nowhere .0)) (inv .3) ∙ sym (one-more (omega (arith, inv .1))),
+  )
+
+  pub put-all : n ≤ i → Putting n zs at ls put i → (length ls ≡ n) × (put ≡ sets zs at (numbers ls))
+  put-all h inv = (inv .1, inv .3 ∙ ap (λ (l : List Length). sets zs at (numbers l)) (take-all i ls (omega (arith, inv .1))))
 
 -- a run after another, from the start
 after-run : (l a b : List ℤ) {n : ℕ} → length a ≡ n → sets (sets l 0 a) n b ≡ sets l 0 (a ++ b)

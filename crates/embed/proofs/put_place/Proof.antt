@@ -1,21 +1,14 @@
 -- `embed::put_place` meets its contract: those passed are put.
 -- Assumes nothing.
-use mathlib.Core.Path.{_≡_, ap, sym, _∙_}
-use mathlib.Core.List.{List}
-use Prim.Native.Nat.{_+_, _≤_, _-_}
+use Prim.Native.Nat.{_-_}
 use native.Mathlib.Omega.{arith}
-use lib.IntN.{ℤ}
-use lib.ListN.{length, take, set, getD}
-use lib.Seq.{sets}
 use borrow.Author.Needs.{needs}
-use Rattle.rules.specs.Commands.{numbers}
-use Rattle.rules.specs.Reach.{nowhere}
-use Rattle.embed.proofs.Runs.{put-next, put-all}
+use Rattle.embed.proofs.Runs.{Putting, put-next, put-all}
 use Rattle.embed.proofs.put_place.Statement.{statement}
 use Rattle.embed.proofs.put_place.Tie as tie
 
 abbrev Inv-loop : tie.InvT-loop
-Inv-loop rec₀ at place axis₀ rec axis = (axis ≤ 3) × (length place ≡ 3) × (length rec ≡ length rec₀) × (rec ≡ sets rec₀ at (numbers (take axis place)))
+Inv-loop rec₀ at place axis₀ rec axis = Putting 3 rec₀ at place rec axis
 
 abbrev μ-loop : tie.MeasureT-loop
 μ-loop rec₀ at place axis₀ rec axis = 3 - axis
@@ -25,15 +18,13 @@ loop-again c =
     let loop = c .before .before .before .before .before in
     let start = loop .before .args in
     let l = loop .loop in
-    let ls = start .t1 in
-    let put = ap (λ (zs : List ℤ). set zs (start .at + l .axis) (getD ls (l .axis) nowhere .0)) (l .inv .3) in
-    (omega arith, l .inv .1, omega arith, c .before .put-length .ensures ∙ put ∙ sym (put-next (start .rec .now) (start .at) ls (l .axis) (omega arith)))
+    put-next 3 (start .rec .now) (start .at) (start .t1) (l .rec) (l .axis) (omega arith) (c .before .put-length .ensures) (l .inv)
 
 returns : tie.Need-returns Inv-loop μ-loop
 returns c =
     let l = c .before .loop in
     let start = c .before .before .args in
-    (l .inv .1, l .inv .3 ∙ put-all (start .rec .now) (start .at) (start .t1) (l .axis) (omega arith))
+    put-all 3 (start .rec .now) (start .at) (start .t1) (l .rec) (l .axis) (omega arith) (l .inv)
 
 pub put-place-spec : {M : Type 1} → statement M
 put-place-spec =
