@@ -4,7 +4,7 @@
 use mathlib.Core.Path.{_≡_, refl, ap, sym, _∙_}
 use mathlib.Core.Bool.{true}
 use mathlib.Core.List.{List, [], _∷_, _++_, map}
-use Prim.Native.Nat.{ℕ, _+_}
+use Prim.Native.Nat.{ℕ, zero, suc, _+_}
 use native.Mathlib.Omega.{arith}
 use lib.IntN.{ℤ, pos, natAbs}
 use lib.ListN.{length, take, drop, take-append-drop, drop-of-length-le, length-map}
@@ -15,10 +15,21 @@ use Rattle.rules.specs.declared.Length.{Length}
 use Rattle.rules.specs.declared.Record.{Record}
 use Rattle.embed.specs.Packing.{packed, unpacked, holdable, numberAt, numbersAt}
 use Rattle.embed.proofs.Held.{same, long, mode, small}
+use Rattle.embed.proofs.Runs.{modes, quantities}
 
 same-numbers : (zs : List ℤ) → numbers (map counts zs) ≡ zs
 same-numbers [] = refl
 same-numbers (z ∷ zs) = ap (λ (l : List ℤ). z ∷ l) (same-numbers zs)
+
+-- the n numbers from a place on, each by its own place
+unfoldable listed : List ℤ → ℕ → ℕ → List ℤ
+listed zs at zero = []
+listed zs at (suc n) = numberAt zs at ∷ listed zs (suc at) n
+
+one-by-one : (zs : List ℤ) (at n : ℕ) → length zs ≡ at + n → drop at zs ≡ listed zs at n
+unfolding listed
+one-by-one zs at zero h = drop-of-length-le zs {i = at} (omega arith)
+one-by-one zs at (suc n) h = drop-cons zs at (pos 0) (omega arith) ∙ ap (λ (l : List ℤ). numberAt zs at ∷ l) (one-by-one zs (suc at) n (omega arith))
 
 module _ (zs : List ℤ) (e : holdable zs ≡ true) where
   -- the three runs of lengths, and what comes after them
@@ -29,25 +40,8 @@ module _ (zs : List ℤ) (e : holdable zs ≡ true) where
       ∙ ap (λ (l : List ℤ). take 3 zs ++ (take 27 (drop 3 zs) ++ l)) (drop-drop 27 3 zs ∙ sym (take-append-drop 3 (drop 30 zs)))
       ∙ ap (λ (l : List ℤ). take 3 zs ++ (take 27 (drop 3 zs) ++ (take 3 (drop 30 zs) ++ l))) (drop-drop 3 30 zs)
 
-  one-by-one : drop 33 zs ≡ numberAt zs 33 ∷ numberAt zs 34 ∷ numberAt zs 35 ∷ numberAt zs 36 ∷ numberAt zs 37 ∷ numberAt zs 38 ∷ numberAt zs 39 ∷ numberAt zs 40 ∷ numberAt zs 41 ∷ numberAt zs 42 ∷ []
-  one-by-one =
-      let n = long zs e in
-      rw (
-        drop-cons zs 33 (pos 0) (omega arith),
-        drop-cons zs 34 (pos 0) (omega arith),
-        drop-cons zs 35 (pos 0) (omega arith),
-        drop-cons zs 36 (pos 0) (omega arith),
-        drop-cons zs 37 (pos 0) (omega arith),
-        drop-cons zs 38 (pos 0) (omega arith),
-        drop-cons zs 39 (pos 0) (omega arith),
-        drop-cons zs 40 (pos 0) (omega arith),
-        drop-cons zs 41 (pos 0) (omega arith),
-        drop-cons zs 42 (pos 0) (omega arith),
-        drop-of-length-le zs {i = 43} (omega arith),
-      ) refl
-
   pub repacked : packed (unpacked zs) ≡ zs
-  unfolding unpacked
+  unfolding unpacked listed
   repacked =
       rw (
         same-numbers (numbersAt zs 0 3),
@@ -62,7 +56,7 @@ module _ (zs : List ℤ) (e : holdable zs ≡ true) where
         same 255 (numberAt zs 41) (small zs e 1 (omega arith)),
         same 255 (numberAt zs 42) (small zs e 2 (omega arith)),
       )
-      (sym (in-runs ∙ ap (λ (l : List ℤ). numbersAt zs 0 3 ++ (numbersAt zs 3 27 ++ (numbersAt zs 30 3 ++ l))) one-by-one))
+      (sym (in-runs ∙ ap (λ (l : List ℤ). numbersAt zs 0 3 ++ (numbersAt zs 3 27 ++ (numbersAt zs 30 3 ++ l))) (one-by-one zs 33 10 (long zs e))))
 
 -- ---- and back
 same-lengths : (ls : List Length) → map counts (numbers ls) ≡ ls
@@ -75,9 +69,7 @@ module _ (r : Record) (three : length (r .position) ≡ 3) (nine : length (r .or
   many ls e = length-map ls (λ (l : Length). l .0) ∙ e
 
   abbrev after-offset : List ℤ
-  after-offset =
-      pos (r .motion) ∷ pos (r .plane) ∷ pos (r .distance) ∷ pos (r .units) ∷ pos (r .system)
-      ∷ r .feed .0 ∷ r .speed .0 ∷ pos (r .tool) ∷ pos (r .spindle) ∷ pos (r .coolant) ∷ []
+  after-offset = modes r ++ quantities r
 
   abbrev after-origins : List ℤ
   after-origins = numbers (r .offset) ++ after-offset

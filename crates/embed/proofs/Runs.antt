@@ -93,10 +93,10 @@ five-runs l a b c d e hl ha hb hc hd he =
     (simp append-assoc)
 
 -- the last two runs of a record
-abbrev modes : Record → List ℤ
+abbrev pub modes : Record → List ℤ
 modes r = pos (r .motion) ∷ pos (r .plane) ∷ pos (r .distance) ∷ pos (r .units) ∷ pos (r .system) ∷ []
 
-abbrev quantities : Record → List ℤ
+abbrev pub quantities : Record → List ℤ
 quantities r = r .feed .0 ∷ r .speed .0 ∷ pos (r .tool) ∷ pos (r .spindle) ∷ pos (r .coolant) ∷ []
 
 -- all five, put one after the other
