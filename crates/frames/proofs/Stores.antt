@@ -23,6 +23,12 @@ set-behind (y ∷ a) l i j x h =
     set-behind a (set l i y) (suc i) j x (omega arith)
     ∙ ap (λ (m : List ℕ). sets m (suc i) a) (set-comm l i j y x (λ e. omega arith))
 
+-- and so may a run
+pub run-behind : (a b l : List ℕ) (i j : ℕ) → i + length a ≤ j → sets (sets l j b) i a ≡ sets (sets l i a) j b
+run-behind a [] l i j h = refl
+run-behind a (x ∷ b) l i j h =
+    run-behind a b (set l j x) i (suc j) (omega arith) ∙ ap (λ (m : List ℕ). sets m (suc j) b) (sym (set-behind a l i j x h))
+
 -- two runs and one store after them
 pub closed-run : {t t′ : List ℕ} {n m : ℕ} (a b l : List ℕ) (i x : ℕ) → t ≡ sets l i a → t′ ≡ sets t (i + n) b → length a ≡ n → length b ≡ m
     → set t′ (i + n + m) x ≡ sets l i (a ++ b ++ x ∷ [])

@@ -3,15 +3,20 @@
 use mathlib.Core.Bool.{Bool, cond}
 use mathlib.Core.List.{List, [], _++_}
 use mathlib.Core.Option.{Option, none, some}
-use Prim.Native.Nat.{ℕ, _+_, _*_}
+use Prim.Native.Nat.{ℕ, zero, suc, _+_, _*_, _/_, _%_}
 use lib.Dec.{leb}
 use lib.ListN.{length, take, drop}
 use lib.IntN.{ℤ}
 use Rattle.rules.specs.Promise.{countOf}
-use Rattle.rules.specs.Frames.{framesIn, onward}
+use Rattle.rules.specs.Frames.{hexDigit, framesIn, onward}
 use Rattle.rules.specs.declared.Answer.{Answer}
 use Rattle.frames.specs.declared.Put.{Put}
 use Rattle.frames.specs.declared.Put.the-variants.{At, Full}
+
+-- the last k hexadecimal digits of n, a byte each, in one number
+unfoldable pub packed : ℕ → ℕ → ℕ
+packed zero n = 0
+packed (suc k) n = packed k (n / 16) * 256 + hexDigit (n % 16)
 
 -- the frames of the first commands of the numbers written, where they are all there
 unfoldable pub framesAt : ℕ → List ℤ → Option (List ℕ)

@@ -6,8 +6,8 @@ ghost use mathlib.Core.Option.{some};
 ghost use lib.ListN.{length, take, drop};
 ghost use lib.Seq.{sets};
 ghost use Rattle.grammar.specs.Bytes.{bytes};
-ghost use Rattle.rules.specs.Frames.{hexDigit, hex, complement, fieldsUsed, fields, frame as frameText, framesIn, refusalFrame};
-ghost use Rattle.frames.specs.Text.{framesAt, answerFrames, placed, laid};
+ghost use Rattle.rules.specs.Frames.{hex, complement, fieldsUsed, fields, frame as frameText, framesIn, refusalFrame};
+ghost use Rattle.frames.specs.Text.{packed, framesAt, answerFrames, placed, laid};
 use rules::Answer;
 
 // Where the text goes on after what is put; or that nothing was put, since the commands are not all
@@ -27,30 +27,44 @@ fn places_from(length: usize, at: usize) -> usize
     length - at
 }
 
-// A hexadecimal digit.
-fn hex_digit(number: u64) -> u8
-    requires { ⌜ number < 16 ⌝ }
-    ensures { λ r. ⌜ r ≡ hexDigit number ⌝ }
+// The last eight digits of a number, a byte each, as one number: halves, quarters and digits are
+// moved apart in it at once, and each digit from ten on carries into the bit above it when 6 is added.
+fn packed_digits(number: u64) -> u64
+    ensures { λ r. ⌜ r ≡ packed 8 number ⌝ }
 {
-    if number < 10 {
-        b'0' + number as u8
-    } else {
-        b'A' + (number - 10) as u8
-    }
+    let last = number % 0x1_0000_0000;
+    let low_half = last % 0x1_0000;
+    let halves = low_half + (last - low_half) * 0x1_0000;
+    let low_quarters = halves & 0xFF_0000_00FF;
+    let quarters = low_quarters + (halves - low_quarters) * 0x100;
+    let low_digits = quarters & 0xF_000F_000F_000F;
+    let digits = low_digits + (quarters - low_digits) * 0x10;
+    let letters = (digits + 0x606_0606_0606_0606 & 0x1010_1010_1010_1010) / 16;
+    digits + 0x3030_3030_3030_3030 + letters * 7
 }
 
-// Puts the last digits of a number from a place on. The last digit comes first out of the number.
+// Puts the last digits of a number, at most eight, from a place on. The last digit comes first out
+// of the number.
 fn put_hex(number: u64, digits: usize, text: &mut [u8], at: usize)
-    requires { ⌜ at + digits ≤ length (now text) ⌝ }
+    requires { ⌜ (digits ≤ 8) × (at + digits ≤ length (now text)) ⌝ }
     ensures { λ _. ⌜ now (text .exit) ≡ sets (now (text .entry)) at (hex digits number) ⌝ }
 {
-    let mut rest = number;
+    let mut rest = packed_digits(number);
     let mut left = digits;
     while left > 0 {
         left -= 1;
-        text[at + left] = hex_digit(rest % 16);
-        rest /= 16;
+        text[at + left] = (rest % 256) as u8;
+        rest /= 256;
     }
+}
+
+// Puts the ten digits of a field. The last eight come first, as one store of eight bytes.
+fn put_field(number: u64, text: &mut [u8], at: usize)
+    requires { ⌜ at + 10 ≤ length (now text) ⌝ }
+    ensures { λ _. ⌜ now (text .exit) ≡ sets (now (text .entry)) at (hex 10 number) ⌝ }
+{
+    put_hex(number, 8, text, at + 2);
+    put_hex(number / 0x1_0000_0000, 2, text, at);
 }
 
 // A number in two's complement, in the forty bits of ten digits. Below zero, -1 - number has the
@@ -83,7 +97,7 @@ fn put_fields(out: &[i64], first: usize, many: usize, text: &mut [u8], at: usize
     ensures { λ _. ⌜ now (text .exit) ≡ sets (now (text .entry)) at (fields (take many (drop first (now (out .entry))))) ⌝ }
 {
     for j in 0..many {
-        put_hex(forty_bits(out[first + j]), 10, text, at + 10 * j);
+        put_field(forty_bits(out[first + j]), text, at + 10 * j);
     }
 }
 
@@ -164,7 +178,7 @@ fn put_refusal(number: u8, text: &mut [u8], at: usize)
     ensures { λ _. ⌜ now (text .exit) ≡ sets (now (text .entry)) at (refusalFrame number) ⌝ }
 {
     put_hex(0xFF, 2, text, at);
-    put_hex(number as u64, 10, text, at + 2);
+    put_field(number as u64, text, at + 2);
     text[at + 12] = b'\n';
 }
 

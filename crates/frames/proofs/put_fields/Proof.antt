@@ -32,7 +32,7 @@ loop-again c =
     let j = loop .loop .j in
     let read = read-complement (getD out (first + j) (pos 0)) (bits .before .forty-bits-arg .given) (bits .forty-bits .ensures) in
     let field = read ∙ ap complement (sym (getD-drop first out j (pos 0))) in
-    (omega arith, omega arith, field-put (start .text .now) (drop first out) (start .at) j (omega (arith, length-drop first out)) (loop .loop .inv .2) field (put .put-hex .ensures))
+    (omega arith, omega arith, field-put (start .text .now) (drop first out) (start .at) j (omega (arith, length-drop first out)) (loop .loop .inv .2) field (put .put-field .ensures))
 
 returns : tie.Need-returns Inv-loop μ-loop
 returns c =

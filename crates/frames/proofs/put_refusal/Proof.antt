@@ -21,8 +21,8 @@ returns c =
     let letters = digits .before .before .before .before in
     let start = letters .before .before .before .args in
     let last : start .at + 12 ≡ start .at + 2 + 10 = omega arith in
-    ap (λ (k : ℕ). set (digits .put-hex2 .last .1 .1 .0) k (byte "\n")) last
-    ∙ closed-run (bytes "FF") (hex 10 (start .number)) (start .text .now) (start .at) (byte "\n") (letters .put-hex .ensures) (digits .put-hex2 .ensures) refl refl
+    ap (λ (k : ℕ). set (digits .put-field .last .1 .0) k (byte "\n")) last
+    ∙ closed-run (bytes "FF") (hex 10 (start .number)) (start .text .now) (start .at) (byte "\n") (letters .put-hex .ensures) (digits .put-field .ensures) refl refl
 
 pub put-refusal-spec : {M : Type 1} → statement M
 put-refusal-spec =
