@@ -1,11 +1,12 @@
 #!/usr/bin/env python3
-"""docs/CODES.md from the tables: every code, its modal group, what it excludes, needs and leaves idle.
+"""docs/CODES.md from the rules' lists: every code, its modal group, what it excludes, needs and leaves idle.
 
     tools/codes.py            writes docs/CODES.md
-    tools/codes.py --check    ends with 1 where docs/CODES.md is not what the tables say
+    tools/codes.py --check    ends with 1 where docs/CODES.md is not what the lists say
 
-The groups are read from the constant arrays of crates/codes, which are proved equal to the rules' lists.
-What a code does is told here; a code without a line below, or a line without its code, is an error.
+The groups are read from the lists of crates/rules/specs/Codes.antt, to which crate codes is proved equal; the table
+of G codes in crates/codes is compared with its list. What a code does is told here; a code without a line below, or a
+line without its code, is an error.
 """
 import pathlib
 import re
@@ -55,6 +56,17 @@ SYSTEMS = ['G54', 'G55', 'G56', 'G57', 'G58', 'G59', 'G59.1', 'G59.2', 'G59.3']
 DOES.update({code: (f'work system {n}', '', '', '') for n, code in enumerate(SYSTEMS, 1)})
 
 
+def listed(name):
+    """Each code that one of the rules' lists of groups holds, with its group."""
+    text = (ROOT / 'crates/rules/specs/Codes.antt').read_text()
+    systems = re.search(r'^systems = (.*)$', text, re.M).group(1)
+    body = re.search(r'^%s =\n(.*?)\n\n' % name, text, re.S | re.M).group(1).replace('systems', systems)
+    codes = {}
+    for group, members in re.findall(r'\((\d+) holds (.*)\)', body):
+        codes.update({int(code): int(group) for code in re.findall(r'\d+', members)})
+    return codes
+
+
 def table(name, length):
     """The entries of the constant array in one of the source files of crate codes."""
     text = (ROOT / 'crates/codes/src' / name).read_text()
@@ -66,14 +78,13 @@ def table(name, length):
 
 
 def served():
-    """Every served code by its name, with its group, in the order of the tables."""
-    codes = {}
-    for tenths, group in enumerate(table('g_table.rt', 1000)):
-        if group != NOT_SERVED:
-            codes[f'G{tenths // 10}' + (f'.{tenths % 10}' if tenths % 10 else '')] = group
-    for code, group in enumerate(table('m_table.rt', 100)):
-        if group != NOT_SERVED:
-            codes[f'M{code}'] = group
+    """Every served code by its name, with its group, in rising order."""
+    tenths = listed('gGroups')
+    if {code: group for code, group in enumerate(table('g_table.rt', 1000)) if group != NOT_SERVED} != tenths:
+        sys.exit("g_table.rt is not what the rules' list of G groups says")
+    codes = {f'G{code // 10}' + (f'.{code % 10}' if code % 10 else ''): tenths[code] for code in sorted(tenths)}
+    whole = listed('mGroups')
+    codes.update({f'M{code}': whole[code] for code in sorted(whole)})
     return codes
 
 
@@ -92,7 +103,7 @@ def page():
     lines = [
         '# Codes',
         '',
-        'Written by `tools/codes.py` from the tables of crate `codes`; the gate compares. A code excludes itself a',
+        'Written by `tools/codes.py` from the lists in crates/rules/specs/Codes.antt; the gate compares. A code excludes itself a',
         'second time and the other codes of its modal group on the same line (number 9). A needed word that is',
         'missing, or an idle word, is number 10; a wrong value of a needed word is 11, a wrong mode 12. Beside no code:',
         'P is idle without G4 or G10, L without G10, and I, J, K without an arc move.',
@@ -107,7 +118,7 @@ def main():
     text = page()
     if sys.argv[1:] == ['--check']:
         if PAGE.read_text() != text:
-            print('docs/CODES.md is not what the tables say: run tools/codes.py')
+            print('docs/CODES.md is not what the lists say: run tools/codes.py')
             return 1
         return 0
     PAGE.write_text(text)

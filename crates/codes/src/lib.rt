@@ -3,11 +3,11 @@ ghost use mathlib.Core.Path.{_≡_};
 ghost use Rattle.rules.specs.Codes.{gCode, mCode, codeUpTo, noCode, systemNumber};
 
 mod g_table;
-mod m_table;
+mod m_ranges;
 
 pub use g_table::g_group;
 pub use g_table::modes_served;
-pub use m_table::m_group;
+pub use m_ranges::m_group;
 use rules::Code;
 use rules::Near;
 use rules::Value;
