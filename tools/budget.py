@@ -2,7 +2,7 @@
 """Where a gate's time goes, from its log: seconds by crate, by must-fail edit and by test.
 
     tools/budget.py LOG            prints seconds by crate; ends with 1 if a crate or an edit has none in the log
-    tools/budget.py LOG --write    also writes docs/CHECK.md
+    tools/budget.py LOG --write    also writes docs/CHECK.md; what stands there from 'By landing' on stays
 
 .ci/run keeps its log in target/gate.log and prints the first of these.
 """
@@ -12,6 +12,7 @@ import sys
 
 ROOT = pathlib.Path(__file__).resolve().parent.parent
 PAGE = ROOT / 'docs/CHECK.md'
+KEPT = '## By landing\n'
 PROVED = re.compile(r'^rt: (\w+) proved \((\d+) s\)$', re.M)
 EDIT = re.compile(r'^rt: must-fail (\w+)/(\S+): refused, .*?(\d+) s\)$', re.M)
 TEST = re.compile(r'^ci: (\S+) passed \((\d+) s\)$', re.M)
@@ -62,7 +63,13 @@ def page(table, log):
     lines += [f'| {name} | {seconds} |' for seconds, name in sorted(edits, key=lambda row: (-(row[0] or 0), row[1]))]
     tests = TEST.findall(log)
     lines += ['', '| Test | Seconds |', '|---|---|', *(f'| {name} | {seconds} |' for name, seconds in tests)]
-    return '\n'.join(lines) + '\n'
+    return '\n'.join(lines) + '\n\n' + by_landing()
+
+
+def by_landing():
+    """The section that is written by hand, a line for each landing."""
+    text = PAGE.read_text() if PAGE.exists() else ''
+    return text[text.index(KEPT):] if KEPT in text else KEPT
 
 
 def main():
