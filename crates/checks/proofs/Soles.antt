@@ -7,7 +7,6 @@ use Rattle.checks.proofs.marks.has as has
 use Rattle.checks.proofs.marks.plane_axes as planeAxes
 use Rattle.checks.proofs.marks.moves as moves
 use Rattle.checks.proofs.marks.arc_move as arcMove
-use Rattle.checks.proofs.marks.moving_code as movingCode
 use Rattle.checks.proofs.marks.ends as ends
 use Rattle.checks.proofs.words.early as early
 use Rattle.checks.proofs.mode.wrong_mode as wrongMode
@@ -26,9 +25,6 @@ moves-sole = record { says = _; is = λ M 𝓤 H A mem run κs a ghost r e. refl
 
 pub arcMove-sole : Sole arcMove.ended (λ M. arcMove.clauses)
 arcMove-sole = record { says = _; is = λ M 𝓤 H A mem run κs a ghost r e. refl; one = λ κs a r r′ ws ws′ p q. (alike p q, refl) }
-
-pub movingCode-sole : Sole movingCode.ended (λ M. movingCode.clauses)
-movingCode-sole = record { says = _; is = λ M 𝓤 H A mem run κs a ghost r e. refl; one = λ κs a r r′ ws ws′ p q. (alike p q, refl) }
 
 pub ends-sole : Sole ends.ended (λ M. ends.clauses)
 ends-sole = record { says = _; is = λ M 𝓤 H A mem run κs a ghost r e. refl; one = λ κs a r r′ ws ws′ p q. (alike p q, refl) }

@@ -8,7 +8,6 @@ pub use marks::arc_move;
 pub use marks::ends;
 pub use marks::has;
 pub use marks::moves;
-pub use marks::moving_code;
 pub use marks::or_else;
 pub use marks::plane_axes;
 pub use mode::wrong_mode;

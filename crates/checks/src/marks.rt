@@ -92,7 +92,7 @@ pub fn arc_move(b: Block, motion: u16) -> bool
 }
 
 // The line has G0, G1, G2 or G3.
-pub fn moving_code(b: Block) -> bool
+pub(crate) fn moving_code(b: Block) -> bool
     ensures { λ r. ⌜ r ≡ movingCode b ⌝ }
 {
     if b.motion.given {
