@@ -1,5 +1,4 @@
 pub mod Clash
-pub mod Preparing
 pub mod Spellings
 pub mod Numerals
 pub mod Evaluating

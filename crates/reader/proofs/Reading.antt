@@ -24,11 +24,11 @@ use Rattle.grammar.proofs.ByForm.{by-pass, byLine}
 use Rattle.rules.specs.Meaning.{Entry, arithmetic}
 use Rattle.rules.specs.Promise.{panel}
 use Rattle.reader.specs.Pass.{pass, guarded}
-use Rattle.reader.specs.Prepare.{bytesOf, prepared}
+use Rattle.text.specs.Prepare.{bytesOf, prepared}
 use Rattle.reader.specs.Underived.{FirstWrong}
 use Rattle.reader.specs.Reading.{Spaces, left, Reads}
 use Rattle.reader.specs.Gather.{checked, leftBy}
-use Rattle.reader.specs.declared.text.Prepared.the-variants.{Bytes, TooLong as NoRoom}
+use Rattle.text.specs.declared.Prepared.the-variants.{Bytes, TooLong as NoRoom}
 use Rattle.reader.specs.declared.line.Checked.{Checked}
 use Rattle.reader.specs.declared.line.Checked.the-variants.{Right, Wrong as Broken}
 use Rattle.reader.specs.declared.line.Reading.{Reading}

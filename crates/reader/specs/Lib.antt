@@ -1,4 +1,3 @@
-pub mod Prepare
 pub mod Pass
 pub mod Places
 pub mod Cursor

@@ -8,7 +8,6 @@ mod line;
 mod numbers;
 mod spelling;
 mod terms;
-mod text;
 mod values;
 
 pub use line::Reading;

@@ -14,9 +14,9 @@ use super::cursor::item_from;
 use super::items::Item;
 use super::numbers::digits_from;
 use super::spelling::Spelt;
-use super::text::Prepared;
-use super::text::prepare;
 use rules::Value;
+use text::Prepared;
+use text::prepare;
 
 // What became of a line.
 pub enum Reading {

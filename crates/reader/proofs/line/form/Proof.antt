@@ -6,7 +6,7 @@ use Rattle.reader.proofs.line.form.Tie as tie
 use Rattle.reader.proofs.line.form.Reads as reads
 use Rattle.reader.proofs.line.form.Lts as lts
 use Rattle.reader.proofs.line.check_text.Reads as check-text-reads
-use Rattle.reader.proofs.text.prepare.Reads as prepare-reads
+use Rattle.text.proofs.prepare.Reads as prepare-reads
 
 array-share-prefix-text : tie.Need-array-share-prefix-text
 array-share-prefix-text c = front-within (c .before .before .before .before .before .before .before .args .line .now) _ refl (rw (c .before .n .given .1) at (c .before .before .before .before .prepare .ensures .0)) (c .before .before .before .before .prepare .ensures .1)

@@ -14,7 +14,7 @@ use Rattle.reader.proofs.line.read.Tie as tie
 use Rattle.reader.proofs.line.read.Reads as reads
 use Rattle.reader.proofs.line.read.Lts as lts
 use Rattle.reader.proofs.line.read_text.Reads as read-text-reads
-use Rattle.reader.proofs.text.prepare.Reads as prepare-reads
+use Rattle.text.proofs.prepare.Reads as prepare-reads
 
 -- the spaces of a line that is not of wrong form stay as they are
 not-wrong : (r : Reading) {sp : Spaces} → OneOf (0 ∷ 1 ∷ 3 ∷ []) (tagOf the-type r) → left r sp ≡ tidied r sp

@@ -4,10 +4,10 @@ ghost use mathlib.Core.Path.{_≡_};
 ghost use Prim.Native.Nat.{_≤_};
 ghost use lib.ListN.{length};
 ghost use Rattle.grammar.specs.Derivation.{blank, raise};
-ghost use Rattle.reader.specs.Prepare.{plain, Copied, bytesOf, prepared};
+ghost use Rattle.text.specs.Prepare.{plain, Copied, bytesOf, prepared};
 
 // How many bytes the prepared line has, where there was room for the line.
-pub(crate) enum Prepared {
+pub enum Prepared {
     Bytes(usize),
     TooLong,
 }
@@ -62,7 +62,7 @@ fn copy_comment(line: &[u8], at: usize, text: &mut [u8], to: usize) -> usize
 
 // Prepares the line into the text, whose bytes past it stay as they were. A line is too long where it
 // has more bytes than the text.
-pub(crate) fn prepare(line: &[u8], text: &mut [u8]) -> Prepared
+pub fn prepare(line: &[u8], text: &mut [u8]) -> Prepared
     ensures { λ r. ⌜ (r ≡ bytesOf (now (line .entry)) (length (now (text .entry)))) × (now (text .exit) ≡ prepared (now (line .entry)) (now (text .entry))) ⌝ }
 {
     if text.len() < line.len() {

@@ -4,11 +4,11 @@ use mathlib.Core.Path.{ap, sym, _∙_}
 use Prim.Native.Nat.{_-_}
 use lib.ListN.{length}
 use native.Mathlib.Omega.{arith}
-use Rattle.reader.proofs.Preparing.{Copying, none-copied, copied, closed, unclosed}
-use Rattle.reader.proofs.text.copy_comment.Statement.{statement}
-use Rattle.reader.proofs.text.copy_comment.Tie as tie
-use Rattle.reader.proofs.text.copy_comment.Reads as reads
-use Rattle.reader.proofs.text.copy_comment.Lts as lts
+use Rattle.text.proofs.Preparing.{Copying, none-copied, copied, closed, unclosed}
+use Rattle.text.proofs.copy_comment.Statement.{statement}
+use Rattle.text.proofs.copy_comment.Tie as tie
+use Rattle.text.proofs.copy_comment.Reads as reads
+use Rattle.text.proofs.copy_comment.Lts as lts
 
 abbrev Inv-loop : tie.InvT-loop
 Inv-loop line at text₀ to n₀ i₀ text n i = Copying line text₀ text to at n i true

@@ -1,19 +1,19 @@
-use Rattle.reader.specs.Prepare.{Done}
-use Rattle.reader.proofs.Preparing.{none-yet, dropped, kept, opened, ends, too-long, as-long, room, plain-as-is}
+use Rattle.text.specs.Prepare.{Done}
+use Rattle.text.proofs.Preparing.{none-yet, dropped, kept, opened, ends, too-long, as-long, room, plain-as-is}
 use mathlib.Core.Path.{ap, sym, _∙_}
 use mathlib.Core.Bool.{false, not}
 use native.Mathlib.Omega.{arith}
 use lib.ListN.{length}
 use Prim.Native.Nat.{_-_}
 use borrow.Author.Tests.{ne-eqb}
-use Rattle.reader.proofs.text.prepare.Statement.{statement}
-use Rattle.reader.proofs.text.prepare.Tie as tie
-use Rattle.reader.proofs.text.prepare.Reads as reads
-use Rattle.reader.proofs.text.prepare.Lts as lts
-use Rattle.reader.proofs.text.copy_comment.Reads as copy-comment-reads
-use Rattle.reader.proofs.text.is_blank.Reads as is-blank-reads
-use Rattle.reader.proofs.text.is_plain.Reads as is-plain-reads
-use Rattle.reader.proofs.text.raised.Reads as raised-reads
+use Rattle.text.proofs.prepare.Statement.{statement}
+use Rattle.text.proofs.prepare.Tie as tie
+use Rattle.text.proofs.prepare.Reads as reads
+use Rattle.text.proofs.prepare.Lts as lts
+use Rattle.text.proofs.copy_comment.Reads as copy-comment-reads
+use Rattle.text.proofs.is_blank.Reads as is-blank-reads
+use Rattle.text.proofs.is_plain.Reads as is-plain-reads
+use Rattle.text.proofs.raised.Reads as raised-reads
 
 abbrev Inv-loop : tie.InvT-loop
 Inv-loop line text₀ n₀ i₀ text n i = Done line text₀ text n i false

@@ -8,8 +8,8 @@ use lib.Dec.{eqb, ltb, leb}
 use lib.ListN.{length, drop}
 use Rattle.grammar.specs.Bytes.{byte}
 use Rattle.grammar.specs.Derivation.{blank, raise, strip, inside}
-use Rattle.reader.specs.declared.text.Prepared.{Prepared}
-use Rattle.reader.specs.declared.text.Prepared.the-variants.{Bytes, TooLong}
+use Rattle.text.specs.declared.Prepared.{Prepared}
+use Rattle.text.specs.declared.Prepared.the-variants.{Bytes, TooLong}
 
 -- a byte is kept: all of a comment, and outside comments all but blanks
 abbrev pub keeps : Bool → ℕ → Bool

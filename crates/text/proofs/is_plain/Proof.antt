@@ -1,8 +1,8 @@
 use borrow.Author.Tests.{lt-ltb, le-ltb}
-use Rattle.reader.proofs.text.is_plain.Statement.{statement}
-use Rattle.reader.proofs.text.is_plain.Tie as tie
-use Rattle.reader.proofs.text.is_plain.Reads as reads
-use Rattle.reader.proofs.text.is_plain.Lts as lts
+use Rattle.text.proofs.is_plain.Statement.{statement}
+use Rattle.text.proofs.is_plain.Tie as tie
+use Rattle.text.proofs.is_plain.Reads as reads
+use Rattle.text.proofs.is_plain.Lts as lts
 
 returns : tie.Need-returns
 returns c = rw (lt-ltb 40 (c .before .args .b) (c .if1 .taken))

@@ -11,8 +11,8 @@ use lib.Dec.{eqb, ltb}
 use lib.ListN.{length, drop, getD, set, length-drop, length-append, length-set, drop-of-length-le}
 use lib.Seq.{drop-cons, set-at}
 use Rattle.grammar.specs.Derivation.{blank, raise, strip, inside}
-use Rattle.reader.specs.Prepare.{keeps, asKept, stays, plain, from, Done, Copied, bytesOf, prepared}
-use Rattle.reader.specs.declared.text.Prepared.the-variants.{Bytes, TooLong}
+use Rattle.text.specs.Prepare.{keeps, asKept, stays, plain, from, Done, Copied, bytesOf, prepared}
+use Rattle.text.specs.declared.Prepared.the-variants.{Bytes, TooLong}
 
 from-end : (c : Bool) → from c [] ≡ []
 unfolding strip

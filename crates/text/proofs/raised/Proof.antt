@@ -1,9 +1,9 @@
 use borrow.Author.Tests.{le-leb, lt-leb}
 use borrow.Author.Needs.{needs}
-use Rattle.reader.proofs.text.raised.Statement.{statement}
-use Rattle.reader.proofs.text.raised.Tie as tie
-use Rattle.reader.proofs.text.raised.Reads as reads
-use Rattle.reader.proofs.text.raised.Lts as lts
+use Rattle.text.proofs.raised.Statement.{statement}
+use Rattle.text.proofs.raised.Tie as tie
+use Rattle.text.proofs.raised.Reads as reads
+use Rattle.text.proofs.raised.Lts as lts
 
 returns : tie.Need-returns
 returns c = rw (lt-leb 97 (c .before .args .b) (c .if1 .taken))
