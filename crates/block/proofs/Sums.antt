@@ -1,4 +1,4 @@
--- What crate `value` gives for sums and differences of small lengths is what `rules` says: nothing comes near the farthest length.
+-- What crate `lengths` gives for sums and differences of small lengths is what `rules` says: nothing comes near the farthest length.
 -- Assumes nothing.
 use mathlib.Core.Path.{_≡_, ap, _∙_}
 use Prim.Native.Nat.{ℕ, _≤_}

@@ -13,7 +13,7 @@ use Rattle.grammar.proofs.Back.{spells}
 use Rattle.grammar.proofs.Terms.{closing}
 use Rattle.grammar.proofs.Place.{Placed, wrong, found, bindP, mapP, numberP, headP, tailP, valueP, restP, exprP, afterP, value-place, rest-place, value-forward, head-on, tail-on}
 use Rattle.rules.specs.Meaning.{numberOf}
-use Rattle.value.specs.Guarded.{apply, lookup}
+use Rattle.arithmetic.specs.Guarded.{apply, lookup}
 use Rattle.rules.specs.declared.Worked.{Worked}
 use Rattle.grammar.specs.declared.Op.{Op}
 use Rattle.grammar.specs.declared.Func.{Func}

@@ -9,8 +9,8 @@ use Rattle.grammar.specs.Grammar.{Value, number, parameter, applied, grouped, E
 use Rattle.grammar.specs.Working.{Arithmetic, high, Pair, pair, Sum, push, terms, total, inOrder, value, expression, pairs, stepOf, after, entries, lineEntries}
 use Rattle.rules.specs.Meaning.{Entry, arithmetic, wordOf, settingOf}
 use Rattle.rules.specs.declared.Worked.{Worked}
-use Rattle.value.specs.Guarded.{work}
-use Rattle.value.proofs.Kept.{Kept, number-kept, work-kept, apply-kept, lookup-kept, work-is, apply-is, lookup-is}
+use Rattle.arithmetic.specs.Guarded.{work}
+use Rattle.arithmetic.proofs.Kept.{Kept, number-kept, work-kept, apply-kept, lookup-kept, work-is, apply-is, lookup-is}
 use Rattle.reader.specs.Pass.{guarded}
 
 -- each right side is in range

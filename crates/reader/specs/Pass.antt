@@ -9,12 +9,12 @@ use Rattle.grammar.proofs.Terms.{Pass}
 use Rattle.grammar.specs.declared.Op.{Op}
 use Rattle.rules.specs.Meaning.{Entry, numberOf, wordOf, settingOf}
 use Rattle.rules.specs.declared.Worked.{Worked}
-use Rattle.value.specs.Guarded.{work, apply, lookup}
+use Rattle.arithmetic.specs.Guarded.{work, apply, lookup}
 use Rattle.reader.specs.declared.terms.Pending.{Pending}
 use Rattle.reader.specs.declared.terms.Pending.the-variants.{Clear, Waits}
 use Rattle.reader.specs.declared.terms.State.{State}
 
--- the arithmetic of crate `value`, which answers for values out of range too; `guarded-line` says that no line tells it from the rules' arithmetic
+-- the arithmetic of crate `arithmetic`, which answers for values out of range too; `guarded-line` says that no line tells it from the rules' arithmetic
 abbrev pub guarded : List ℤ → Arithmetic Worked Entry
 guarded table = record {
   numberOf = numberOf;

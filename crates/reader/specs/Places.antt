@@ -14,7 +14,7 @@ use Rattle.grammar.proofs.Read.{got, readSign, takeWhile, Head, hash, bare, cal
 use Rattle.grammar.proofs.Place.{Placed, wrong, found}
 use Rattle.grammar.proofs.Items.{itemP}
 use Rattle.rules.specs.Meaning.{decimal, negative, Entry, wordIs, settingIs, wordOf, settingOf}
-use Rattle.value.specs.Guarded.{apply, lookup}
+use Rattle.arithmetic.specs.Guarded.{apply, lookup}
 use Rattle.grammar.specs.declared.Op.{Op}
 use Rattle.grammar.specs.declared.Func.{Func}
 use Rattle.rules.specs.declared.Worked.{Worked}

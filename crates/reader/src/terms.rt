@@ -37,7 +37,7 @@ pub(crate) fn settled(waiting: Pending, right: Worked) -> Worked
 {
     match waiting {
         Pending::Clear => right,
-        Pending::Waits(op, left) => value::work(op, left, right),
+        Pending::Waits(op, left) => arithmetic::work(op, left, right),
     }
 }
 
@@ -50,7 +50,7 @@ pub(crate) fn pushed(state: State, op: Op, right: Worked) -> State
     if is_high(op) {
         return State {
             waiting: waiting,
-            term: value::work(op, term, right),
+            term: arithmetic::work(op, term, right),
         };
     }
     State {

@@ -32,7 +32,7 @@ fn looked_up(table: &[i64], number: Valued) -> Valued
     ensures { λ r. ⌜ r ≡ lookedUp (now (table .entry)) number ⌝ }
 {
     match number {
-        Valued::To(v, p) => Valued::To(value::lookup(table, v), p),
+        Valued::To(v, p) => Valued::To(arithmetic::lookup(table, v), p),
         Valued::Wrong(p) => Valued::Wrong(p),
     }
 }
@@ -41,7 +41,7 @@ fn applied(f: Func, argument: Valued) -> Valued
     ensures { λ r. ⌜ r ≡ appliedTo f argument ⌝ }
 {
     match argument {
-        Valued::To(v, p) => Valued::To(value::apply(f, v), p),
+        Valued::To(v, p) => Valued::To(arithmetic::apply(f, v), p),
         Valued::Wrong(p) => Valued::Wrong(p),
     }
 }

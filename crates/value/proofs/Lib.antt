@@ -1,5 +1,4 @@
 pub mod Bits
 pub mod Ranges
 pub mod Sizes
-pub mod Kept
 pub mod Soles

@@ -2,9 +2,6 @@
 -- Assumes nothing.
 use mathlib.Core.Path.{refl}
 use Rattle.laws.proofs.Sole.{Sole, alike}
-use Rattle.value.proofs.work as work
-use Rattle.value.proofs.apply as apply
-use Rattle.value.proofs.lookup as lookup
 use Rattle.value.proofs.parameter as parameter
 use Rattle.value.proofs.whole as whole
 use Rattle.value.proofs.tenth as tenth
@@ -12,15 +9,8 @@ use Rattle.value.proofs.number as number
 use Rattle.value.proofs.is_below_zero as belowZero
 use Rattle.value.proofs.in_range as inRange
 use Rattle.value.proofs.signs.size_of as sizeOf
-
-pub work-sole : Sole work.ended (λ M. work.clauses)
-work-sole = record { says = _; is = λ M 𝓤 H A m n κs a g r e. refl; one = λ κs a r r′ ws ws′ p q. (alike p q, refl) }
-
-pub apply-sole : Sole apply.ended (λ M. apply.clauses)
-apply-sole = record { says = _; is = λ M 𝓤 H A m n κs a g r e. refl; one = λ κs a r r′ ws ws′ p q. (alike p q, refl) }
-
-pub lookup-sole : Sole lookup.ended (λ M. lookup.clauses)
-lookup-sole = record { says = _; is = λ M 𝓤 H A m n κs a g r e. refl; one = λ κs a r r′ ws ws′ p q. (alike p q, refl) }
+use Rattle.value.proofs.signs.ranged_signed as rangedSigned
+use Rattle.value.proofs.rounding.rounded as rounded
 
 pub parameter-sole : Sole parameter.ended (λ M. parameter.clauses)
 parameter-sole = record { says = _; is = λ M 𝓤 H A m n κs a g r e. refl; one = λ κs a r r′ ws ws′ p q. (alike p q, refl) }
@@ -42,3 +32,9 @@ in-range-sole = record { says = _; is = λ M 𝓤 H A m n κs a g r e. refl; one
 
 pub size-of-sole : Sole sizeOf.ended (λ M. sizeOf.clauses)
 size-of-sole = record { says = _; is = λ M 𝓤 H A m n κs a g r e. refl; one = λ κs a r r′ ws ws′ p q. (alike p q, refl) }
+
+pub ranged-signed-sole : Sole rangedSigned.ended (λ M. rangedSigned.clauses)
+ranged-signed-sole = record { says = _; is = λ M 𝓤 H A m n κs a g r e. refl; one = λ κs a r r′ ws ws′ p q. (alike p q, refl) }
+
+pub rounded-sole : Sole rounded.ended (λ M. rounded.clauses)
+rounded-sole = record { says = _; is = λ M 𝓤 H A m n κs a g r e. refl; one = λ κs a r r′ ws ws′ p q. (alike p q, refl) }

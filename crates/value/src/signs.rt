@@ -14,12 +14,6 @@ pub fn size_of(z: i64) -> u64
     if z < 0 { (-1 - z) as u64 + 1 } else { z as u64 }
 }
 
-pub(crate) fn size(v: Value) -> u64
-    ensures { λ r. ⌜ r ≡ natAbs (v .0) ⌝ }
-{
-    size_of(v.0)
-}
-
 pub(crate) fn signed(negative: bool, size: u64) -> Value
     requires { ⌜ size < 2 ^ 63 ⌝ }
     ensures { λ r. ⌜ r .0 ≡ signed negative size ⌝ }
@@ -29,7 +23,7 @@ pub(crate) fn signed(negative: bool, size: u64) -> Value
 }
 
 // The value of that sign and size, where it is in range.
-pub(crate) fn ranged_signed(negative: bool, size: u64) -> Worked
+pub fn ranged_signed(negative: bool, size: u64) -> Worked
     ensures { λ r. ⌜ r ≡ ranged (signed negative size) ⌝ }
 {
     if size <= 999_999_999 {

@@ -6,7 +6,7 @@ use Rattle.reader.proofs.terms.pushed.Reads as reads
 use Rattle.reader.proofs.terms.pushed.Lts as lts
 use Rattle.reader.proofs.terms.is_high.Reads as is-high-reads
 use Rattle.reader.proofs.terms.settled.Reads as settled-reads
-use Rattle.value.proofs.work.Reads as work-reads
+use Rattle.arithmetic.proofs.work.Reads as work-reads
 
 returns : tie.Need-returns
 returns c = rw (c .work .ensures, sym (c .before .before .is-high .ensures) ∙ c .before .if1 .taken)

@@ -4,7 +4,7 @@ use Rattle.reader.proofs.terms.settled.Statement.{statement}
 use Rattle.reader.proofs.terms.settled.Tie as tie
 use Rattle.reader.proofs.terms.settled.Reads as reads
 use Rattle.reader.proofs.terms.settled.Lts as lts
-use Rattle.value.proofs.work.Reads as work-reads
+use Rattle.arithmetic.proofs.work.Reads as work-reads
 
 returns-2 : tie.Need-returns-2
 returns-2 c = c .work .ensures ∙ rw (c .before .before .waiting .given .1)

@@ -3,7 +3,7 @@ use Rattle.reader.proofs.values.applied.Statement.{statement}
 use Rattle.reader.proofs.values.applied.Tie as tie
 use Rattle.reader.proofs.values.applied.Reads as reads
 use Rattle.reader.proofs.values.applied.Lts as lts
-use Rattle.value.proofs.apply.Reads as apply-reads
+use Rattle.arithmetic.proofs.apply.Reads as apply-reads
 
 returns : tie.Need-returns
 returns c = rw (c .apply .ensures, c .before .before .argument .given .1)

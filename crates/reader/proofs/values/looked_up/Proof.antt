@@ -3,7 +3,7 @@ use Rattle.reader.proofs.values.looked_up.Statement.{statement}
 use Rattle.reader.proofs.values.looked_up.Tie as tie
 use Rattle.reader.proofs.values.looked_up.Reads as reads
 use Rattle.reader.proofs.values.looked_up.Lts as lts
-use Rattle.value.proofs.lookup.Reads as lookup-reads
+use Rattle.arithmetic.proofs.lookup.Reads as lookup-reads
 
 returns : tie.Need-returns
 returns c = rw (c .lookup .ensures, c .before .before .number .given .1)
