@@ -1,7 +1,7 @@
 -- Words held side by side, the words that a loop still has ahead of it, and words of the grammar's letters.
 -- Assumes nothing.
 use mathlib.Core.Path.{_≡_, refl, sym, ap, _∙_}
-use mathlib.Core.Bool.{Bool, true, false, cond, _&&_}
+use mathlib.Core.Bool.{Bool, true, false, cond}
 use mathlib.Core.List.{List, [], _∷_, map}
 use Prim.Native.Nat.{ℕ, zero, suc, _+_, _≤_, _<_, min}
 use native.Mathlib.Nat.{zero-min, min-zero, suc-min-suc, min-le-left, min-le-right}
@@ -70,19 +70,6 @@ lettered-all (w ∷ ws) t = go (letter (w .letter)) (and-left (letter (w .letter
     go : (b : Bool) → T b → lettered ws ≡ ws → cond b (w ∷ lettered ws) (lettered ws) ≡ w ∷ ws
     go true s e = ap (λ (us : List Said). w ∷ us) e
     go false s e = absurd s
-
--- the same by the letters alone
-pub lettered-said : (ls : List ℕ) (vs : List ℤ) → T (all letter ls) → lettered (said ls vs) ≡ said ls vs
-lettered-said ls vs t = lettered-all (said ls vs) (letters ls vs t)
-  where
-    both : (a b : Bool) → T a → T b → T (a && b)
-    both true b s u = u
-    both false b s u = s
-
-    letters : (ls : List ℕ) (vs : List ℤ) → T (all letter ls) → AllLettered (said ls vs)
-    letters [] vs t = tt
-    letters (l ∷ ls) [] t = tt
-    letters (l ∷ ls) (v ∷ vs) t = both (letter l) _ (and-left (letter l) (all letter ls) t) (letters ls vs (and-right (letter l) (all letter ls) t))
 
 -- what is not passed over is such
 pub all-lettered : (ws : List Said) → AllLettered (lettered ws)
