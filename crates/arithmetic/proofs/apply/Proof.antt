@@ -1,3 +1,5 @@
+-- `arithmetic::apply` meets its contract: a value that passed the guard is in range, as `function` asks.
+-- Assumes nothing.
 use mathlib.Core.Path.{sym, _∙_}
 use Rattle.arithmetic.proofs.Kept.{good-kept}
 use borrow.Author.Needs.{needs}

@@ -1,3 +1,5 @@
+-- `arithmetic::checked` meets its contract: a value passes if it is in range, a refusal as it is.
+-- Assumes nothing.
 use mathlib.Core.Path.{_∙_}
 use borrow.Author.Needs.{needs}
 use Rattle.arithmetic.proofs.checked.Statement.{statement}

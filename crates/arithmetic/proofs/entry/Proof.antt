@@ -1,3 +1,5 @@
+-- `arithmetic::entry` meets its contract: the entry of a number, or number 7.
+-- Assumes nothing.
 use mathlib.Core.Path.{_∙_}
 use borrow.Author.Needs.{needs}
 use Rattle.arithmetic.proofs.entry.Statement.{statement}

@@ -1,3 +1,5 @@
+-- `arithmetic::entry_at` meets its contract: an entry that the table does not have reads 0.
+-- Assumes nothing.
 use Rattle.rules.specs.Meaning.{ranged}
 use Rattle.laws.proofs.Ints.{back}
 use lib.ListN.{getD, List·getD-eq-default}

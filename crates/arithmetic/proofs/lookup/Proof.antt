@@ -1,3 +1,5 @@
+-- `arithmetic::lookup` meets its contract: the entry of the parameter that a value in range names.
+-- Assumes nothing.
 use mathlib.Core.Path.{sym, _∙_}
 use borrow.Author.Needs.{needs}
 use Rattle.arithmetic.proofs.lookup.Statement.{statement}

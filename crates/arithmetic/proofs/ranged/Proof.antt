@@ -1,3 +1,5 @@
+-- `arithmetic::ranged` meets its contract: the test of the range is the one that the rules make.
+-- Assumes nothing.
 use mathlib.Core.Path.{sym, _∙_}
 use Rattle.rules.specs.Meaning.{ranged}
 use borrow.Author.Needs.{needs}

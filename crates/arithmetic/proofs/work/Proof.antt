@@ -1,3 +1,5 @@
+-- `arithmetic::work` meets its contract: both sides passed the guard, so they are in range, as `operation` asks; the left side is looked at first.
+-- Assumes nothing.
 use borrow.Author.Needs.{needs}
 use mathlib.Core.Path.{_≡_, sym, _∙_}
 use Rattle.rules.specs.declared.Worked.the-variants.{Good}

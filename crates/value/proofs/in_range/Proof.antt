@@ -1,3 +1,5 @@
+-- `value::in_range` meets its contract: the number that a value holds is read back as it is, and its size compared.
+-- Assumes nothing.
 use Rattle.laws.proofs.Ints.{back}
 use borrow.Author.Needs.{needs}
 use Rattle.value.proofs.in_range.Statement.{statement}

@@ -1,3 +1,5 @@
+-- `value::is_below_zero` meets its contract: the test of the bits is that of the number.
+-- Assumes nothing.
 use Rattle.value.proofs.Bits.{sign-test}
 use Rattle.value.proofs.is_below_zero.Statement.{statement}
 use Rattle.value.proofs.is_below_zero.Tie as tie

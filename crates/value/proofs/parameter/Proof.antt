@@ -1,3 +1,5 @@
+-- `value::parameter` meets its contract: the whole number that a value counts as is compared with the first and the last number.
+-- Assumes nothing.
 use borrow.Author.Needs.{needs}
 use mathlib.Core.Path.{sym, _∙_}
 use Rattle.value.proofs.Ranges.{CountsAs, below-first, above-last, a-parameter, no-parameter, index-fits}

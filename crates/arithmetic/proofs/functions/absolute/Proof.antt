@@ -1,3 +1,5 @@
+-- `arithmetic::functions::absolute` meets its contract: the size without the sign.
+-- Assumes nothing.
 use mathlib.Core.Path.{_∙_}
 use borrow.Author.Needs.{needs}
 use Rattle.arithmetic.proofs.functions.absolute.Statement.{statement}

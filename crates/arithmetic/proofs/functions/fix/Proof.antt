@@ -1,3 +1,5 @@
+-- `arithmetic::functions::fix` meets its contract: a value of its sign and of its size taken down (`down-by`).
+-- Assumes nothing.
 use Rattle.arithmetic.proofs.Sizes.{down-by}
 use mathlib.Core.Path.{_∙_}
 use borrow.Author.Needs.{needs}

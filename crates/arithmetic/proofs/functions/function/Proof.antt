@@ -1,3 +1,5 @@
+-- `arithmetic::functions::function` meets its contract: case by case of the function.
+-- Assumes nothing.
 use mathlib.Core.Path.{_∙_}
 use Rattle.rules.specs.Meaning.{function}
 use borrow.Author.Needs.{needs}

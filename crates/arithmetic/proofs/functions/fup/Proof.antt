@@ -1,3 +1,5 @@
+-- `arithmetic::functions::fup` meets its contract: up is down for the negative (`upward-by`).
+-- Assumes nothing.
 use Rattle.arithmetic.proofs.Sizes.{upward-by}
 use mathlib.Core.Path.{_∙_}
 use borrow.Author.Needs.{needs}

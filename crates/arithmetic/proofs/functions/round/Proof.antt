@@ -1,3 +1,5 @@
+-- `arithmetic::functions::round` meets its contract: units by the size rounded to the nearest (`rounded-by`).
+-- Assumes nothing.
 use Rattle.arithmetic.proofs.Sizes.{rounded-by}
 use mathlib.Core.Path.{_∙_}
 use borrow.Author.Needs.{needs}

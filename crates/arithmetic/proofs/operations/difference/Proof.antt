@@ -1,3 +1,5 @@
+-- `arithmetic::operations::difference` meets its contract: two values in range differ by what 64 bits hold.
+-- Assumes nothing.
 use mathlib.Core.Path.{_∙_}
 use Rattle.laws.proofs.Ints.{fits-w, back-w, within-diff}
 use borrow.Author.Needs.{needs}

@@ -1,3 +1,5 @@
+-- `arithmetic::operations::is_true` meets its contract: a value is not zero where its size is not.
+-- Assumes nothing.
 use borrow.Author.Needs.{needs}
 use Rattle.arithmetic.proofs.operations.is_true.Statement.{statement}
 use Rattle.arithmetic.proofs.operations.is_true.Tie as tie

@@ -1,3 +1,5 @@
+-- `arithmetic::operations::modulo` meets its contract: what the sizes leave over, by the sign of the dividend (`modulo-is`).
+-- Assumes nothing.
 use borrow.Author.Needs.{needs}
 use mathlib.Core.Path.{_∙_}
 use Rattle.arithmetic.proofs.Sizes.{modulo-is, no-divisor}

@@ -1,3 +1,5 @@
+-- `arithmetic::operations::operation` meets its contract: case by case of the operator.
+-- Assumes nothing.
 use Rattle.rules.specs.Meaning.{operation}
 use mathlib.Core.Path.{_∙_}
 use borrow.Author.Needs.{needs}

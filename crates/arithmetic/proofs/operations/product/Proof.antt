@@ -1,3 +1,5 @@
+-- `arithmetic::operations::product` meets its contract: sizes are multiplied and rounded, signs compared (`product-is`).
+-- Assumes nothing.
 use mathlib.Core.Path.{_∙_}
 use Rattle.laws.proofs.Ints.{mul-bound}
 use native.Mathlib.Omega.{arith}

@@ -1,3 +1,5 @@
+-- `arithmetic::operations::quotient` meets its contract: sizes are divided and rounded, signs compared (`quotient-is`).
+-- Assumes nothing.
 use borrow.Author.Needs.{needs}
 use mathlib.Core.Path.{_∙_}
 use Rattle.arithmetic.proofs.Sizes.{quotient-is, no-divisor}

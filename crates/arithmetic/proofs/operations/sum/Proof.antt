@@ -1,3 +1,5 @@
+-- `arithmetic::operations::sum` meets its contract: two values in range add up to what 64 bits hold.
+-- Assumes nothing.
 use mathlib.Core.Path.{_∙_}
 use Rattle.laws.proofs.Ints.{fits-w, back-w, within-sum}
 use borrow.Author.Needs.{needs}

@@ -1,3 +1,5 @@
+-- `arithmetic::operations::truth` meets its contract: 1 and 0 are in range.
+-- Assumes nothing.
 use Rattle.rules.specs.Meaning.{ranged}
 use Rattle.arithmetic.proofs.operations.truth.Statement.{statement}
 use Rattle.arithmetic.proofs.operations.truth.Tie as tie

@@ -1,3 +1,5 @@
+-- `arithmetic::residues::down_to` meets its contract: below zero the rest is added, else taken away.
+-- Assumes nothing.
 use Rattle.arithmetic.proofs.Sizes.{residue-small, residue-le}
 use native.Mathlib.Omega.{arith}
 use borrow.Author.Needs.{needs}

@@ -1,3 +1,5 @@
+-- `arithmetic::residues::left_over` meets its contract: below zero what is left is counted down from the divisor.
+-- Assumes nothing.
 use native.Mathlib.Omega.{arith}
 use native.Mathlib.Nat.{mod-lt}
 use borrow.Author.Needs.{needs}

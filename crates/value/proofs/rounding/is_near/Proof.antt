@@ -1,3 +1,5 @@
+-- `value::rounding::is_near` meets its contract: the rest, or what it lacks to a step, is at most 1.
+-- Assumes nothing.
 use native.Mathlib.Omega.{arith}
 use native.Mathlib.Nat.{mod-lt}
 use Rattle.value.proofs.Sizes.{near-below, near-above}

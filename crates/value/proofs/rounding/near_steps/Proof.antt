@@ -1,3 +1,5 @@
+-- `value::rounding::near_steps` meets its contract: sizes are rounded, and the sign is put back (`near-is`).
+-- Assumes nothing.
 use Rattle.rules.specs.declared.Near.the-variants.{To}
 use Rattle.laws.proofs.Ints.{back}
 use Rattle.value.proofs.Sizes.{near-is, near-none, nearest-fits}

@@ -1,3 +1,5 @@
+-- `value::rounding::rounded` meets its contract: less than half is left and it goes down, else up.
+-- Assumes nothing.
 use Rattle.value.proofs.Sizes.{none-by-zero, nearest-down, nearest-up, one-more}
 use native.Mathlib.Omega.{arith}
 use native.Mathlib.Nat.{mod-lt, pos-of-ne-zero}

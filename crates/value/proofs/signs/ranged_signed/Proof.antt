@@ -1,3 +1,5 @@
+-- `value::signs::ranged_signed` meets its contract: a size in range makes a value in range.
+-- Assumes nothing.
 use mathlib.Core.Path.{sym, ap, _∙_}
 use Rattle.value.proofs.Ranges.{signed-in, signed-out}
 use Rattle.rules.specs.declared.Worked.the-variants.{Good}

@@ -1,3 +1,5 @@
+-- `value::signs::signed` meets its contract: a size below 2^63 can be negated.
+-- Assumes nothing.
 use lib.IntN.{pos, negℤ}
 use mir.Facts.{toZ-pos}
 use mir.Syntax.{w64}

@@ -1,3 +1,5 @@
+-- `value::signs::size_of` meets its contract: below zero one is taken off before the sign is turned, and added after.
+-- Assumes nothing.
 use Rattle.value.proofs.Bits.{above-cast, below-fits, below-cast, below-add, below-size}
 use borrow.Author.Needs.{needs}
 use Rattle.value.proofs.signs.size_of.Statement.{statement}
