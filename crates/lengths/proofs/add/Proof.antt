@@ -1,3 +1,5 @@
+-- `lengths::add` meets its contract: the room that is left up to the farthest length is compared before the sum is made.
+-- Assumes nothing.
 use borrow.Author.Needs.{needs}
 use mathlib.Core.Path.{_∙_}
 use Rattle.lengths.proofs.Lengths.{Both, room-over, sum-over, sum-below, room-under, sum-under, sum-above, sum-fits, sum-held}

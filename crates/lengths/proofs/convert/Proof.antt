@@ -1,3 +1,5 @@
+-- `lengths::convert` meets its contract: a value in range is converted, any other goes to the farthest length of its sign.
+-- Assumes nothing.
 use Rattle.lengths.specs.Saturated.{conversion}
 use Rattle.value.proofs.Ranges.{inside}
 use mathlib.Core.Path.{sym, _∙_}

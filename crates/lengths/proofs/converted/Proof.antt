@@ -1,3 +1,5 @@
+-- `lengths::converted` meets its contract: a value in range times 254 or 10 fits 64 bits.
+-- Assumes nothing.
 use borrow.Author.Tests.{eq-eqb, ne-eqb}
 use Rattle.rules.specs.Reach.{converted}
 use Rattle.laws.proofs.Ints.{fits-w, back-w, within-product, within-pos}

@@ -1,3 +1,5 @@
+-- `lengths::extent` meets its contract: the number that a length holds is read back as it is.
+-- Assumes nothing.
 use Rattle.laws.proofs.Ints.{back}
 use mathlib.Core.Path.{_∙_}
 use borrow.Author.Needs.{needs}

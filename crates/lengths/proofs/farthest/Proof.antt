@@ -1,3 +1,5 @@
+-- `lengths::farthest` meets its contract: by its sign.
+-- Assumes nothing.
 use Rattle.lengths.proofs.farthest.Statement.{statement}
 use Rattle.lengths.proofs.farthest.Tie as tie
 

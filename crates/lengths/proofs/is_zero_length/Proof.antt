@@ -1,3 +1,5 @@
+-- `lengths::is_zero_length` meets its contract: by its extent.
+-- Assumes nothing.
 use borrow.Author.Needs.{needs}
 use Rattle.lengths.proofs.is_zero_length.Statement.{statement}
 use Rattle.lengths.proofs.is_zero_length.Tie as tie

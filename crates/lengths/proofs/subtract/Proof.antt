@@ -1,3 +1,5 @@
+-- `lengths::subtract` meets its contract: the room that is left up to the farthest length is compared before the difference is made.
+-- Assumes nothing.
 use borrow.Author.Needs.{needs}
 use mathlib.Core.Path.{_∙_}
 use Rattle.lengths.proofs.Lengths.{Both, less-room-over, less-over, less-below, less-room-under, less-under, less-above, less-fits, less-held}
