@@ -3,7 +3,7 @@
 use mathlib.Core.Path.{refl}
 use Rattle.laws.proofs.Sole.{Sole, alike}
 use Rattle.codes.proofs.g_table.g_group as gGroup
-use Rattle.codes.proofs.g_table.modes_served as modesServed
+use Rattle.codes.proofs.modes.modes_served as modesServed
 use Rattle.codes.proofs.m_ranges.m_group as mGroup
 use Rattle.codes.proofs.system_number as systemNumber
 use Rattle.codes.proofs.g_code as gCode

@@ -1,7 +1,7 @@
 // The modal group of each G code.
 ghost use mathlib.Core.Path.{_≡_};
-ghost use mathlib.Core.Bool.{cond, _&&_};
-ghost use lib.Dec.{eqb, ltb};
+ghost use mathlib.Core.Bool.{cond};
+ghost use lib.Dec.{ltb};
 ghost use lib.ListN.{getD};
 ghost use Rattle.rules.specs.Codes.{gGroup, notServed};
 
@@ -11,27 +11,6 @@ pub fn g_group(code: u16) -> u8
 {
     let groups = GROUPS;
     entry(&groups, code)
-}
-
-// Whether each mode of a record is a code of its group. All five are looked up in one table, since
-// laying it out costs more than a look.
-pub fn modes_served(motion: u16, plane: u16, distance: u16, units: u16, system: u16) -> bool
-    ensures { λ served. ⌜ served ≡ (eqb (gGroup motion) 1 && eqb (gGroup plane) 2 && eqb (gGroup distance) 3 && eqb (gGroup units) 6 && eqb (gGroup system) 12) ⌝ }
-{
-    let groups = GROUPS;
-    if entry(&groups, motion) != 1 {
-        return false;
-    }
-    if entry(&groups, plane) != 2 {
-        return false;
-    }
-    if entry(&groups, distance) != 3 {
-        return false;
-    }
-    if entry(&groups, units) != 6 {
-        return false;
-    }
-    entry(&groups, system) == 12
 }
 
 // What a table has for a code; past its end nothing is served.

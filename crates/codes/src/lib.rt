@@ -4,10 +4,11 @@ ghost use Rattle.rules.specs.Codes.{gCode, mCode, codeUpTo, noCode, systemNumbe
 
 mod g_table;
 mod m_ranges;
+mod modes;
 
 pub use g_table::g_group;
-pub use g_table::modes_served;
 pub use m_ranges::m_group;
+pub use modes::modes_served;
 use rules::Code;
 use rules::Near;
 use rules::Value;
