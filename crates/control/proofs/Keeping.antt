@@ -1,7 +1,7 @@
 -- Whoever works a line from what the reader leaves keeps the promise.
 -- Assumes nothing.
-use mathlib.Core.Path.{_≡_, refl, ap, _∙_, sym, subst}
-use mathlib.Core.Bool.{Bool, true, false, cond, not, _&&_, _||_}
+use mathlib.Core.Path.{_≡_, refl, ap, _∙_, sym}
+use mathlib.Core.Bool.{Bool, true, false, cond, not, _&&_, _||_, or-true}
 use mathlib.Core.List.{List, [], _∷_, _++_, map}
 use mathlib.Core.Option.{Option, none, some}
 use Prim.Native.Nat.{ℕ, zero, suc, _+_, _≤_, _<_}
@@ -10,7 +10,7 @@ use lib.Dec.{T, eqb, ltb, eqb→eq, T-not}
 use lib.ListN.{length, take, drop}
 use lib.Seq.{sets, sets-eq, take-append-seam}
 use lib.IntN.{ℤ}
-use borrow.Author.Tests.{le-ltb, lt-ltb, ne-eqb}
+use borrow.Author.Tests.{le-ltb, lt-ltb, eq-eqb, ne-eqb}
 use Rattle.laws.proofs.Bools.{T-eq, not-eq}
 use Rattle.grammar.specs.Grammar.{Line, line as lineOf, letter}
 use Rattle.grammar.specs.Derivation.{Derives}
@@ -27,13 +27,14 @@ use Rattle.rules.proofs.Demands.{lacking}
 use Rattle.rules.specs.declared.Block.{Block}
 use Rattle.rules.specs.declared.Record.{Record}
 use Rattle.rules.specs.declared.Outcome.{Outcome}
+use Rattle.rules.specs.declared.Answer.{Answer}
 use Rattle.rules.specs.declared.Answer.the-variants.{Accepted, Refused, Skipped}
 use Rattle.reader.specs.Reading.{Spaces, stored, stopOf, outcome, Left, leaves, Reads}
 use Rattle.reader.specs.declared.line.Reading.{Reading}
-use Rattle.reader.specs.declared.line.Reading.the-variants.{Read}
+use Rattle.reader.specs.declared.line.Reading.the-variants.{Read, Stopped, Wrong, TooLong}
 use Rattle.summary.specs.Words.{said, lettered}
 use Rattle.block.specs.Execution.{allInRange, Done, done, doneBy, executed, execution}
-use Rattle.control.specs.Worked.{settingsOf, tableAfter, finished, workedBy, worked}
+use Rattle.control.specs.Worked.{judgedAs, settingsOf, tableAfter, finished, workedBy, worked}
 use Rattle.rules.proofs.Sound.{SoundTook, entries-sound}
 use Rattle.reader.proofs.Demand3.{line-counts}
 use Rattle.control.proofs.Words.{entries-lettered}
@@ -106,11 +107,6 @@ stopped-by (suc (suc (suc (suc (suc (suc zero)))))) l h cs e b r table out = ref
 stopped-by (suc (suc (suc (suc (suc (suc (suc zero))))))) l h cs e b r table out = refl
 stopped-by (suc (suc (suc (suc (suc (suc (suc (suc k)))))))) l h cs e b r table out = absurd (omega arith)
 
-not-disorder : (x y : Bool) → (not x || not y) ≡ false → y ≡ true
-not-disorder true true h = refl
-not-disorder true false h = sym h
-not-disorder false y h = absurd (subst T h tt)
-
 -- what a test has shown of what it is the test of
 pub by-test : {x y b : Bool} → x ≡ y → x ≡ b → y ≡ b
 by-test e t = sym e ∙ t
@@ -120,22 +116,50 @@ module _ (line : List ℕ) (switch : Bool) (r : Record) (table out : List ℤ) w
   by-early : {x : After} → ((e : Option (Took Entry)) → answerTo e line switch r table out ≡ x) → Right line switch r table out x
   by-early h = record { byTree = λ t d. sym (h (reading table (some t))); byNone = λ _. sym (h none) }
 
-  pub kept-1 : {o : Outcome} → disorder r table ≡ true → o ≡ record { answer = Refused 1; rec = r } → Right line switch r table out (after o table out)
+  kept-1 : disorder r table ≡ true → Right line switch r table out (leaving (Refused 1) r table out)
   unfolding answerTo
-  kept-1 d h = rw h (by-early (λ e. rw d))
+  kept-1 d = by-early (λ e. rw d)
 
-  pub kept-2 : {o : Outcome} → disorder r table ≡ false → 256 < length line → o ≡ record { answer = Refused 2; rec = r } → Right line switch r table out (after o table out)
-  unfolding answerTo
-  kept-2 d l h = rw h (by-early (λ e. rw (d, lt-ltb 256 (length line) l)))
-
-  pub kept-skipped : disorder r table ≡ false → length line ≤ 256 → (switch && slashed line) ≡ true → Right line switch r table out (leaving Skipped r table out)
-  unfolding answerTo
-  kept-skipped d l s = by-early (λ e. rw (d, le-ltb 256 (length line) l, s))
-
-module _ (line : List ℕ) (switch : Bool) (r : Record) (table out : List ℤ) (ordered : disorder r table ≡ false) (short : length line ≤ 256) (unskipped : (switch && slashed line) ≡ false) where
-  in-order : inOrder r ≡ true
+  -- a table of another length, and a record out of order
+  pub kept-table : {o : Outcome} → (length table ≡ 5000 → ⊥) → o ≡ record { answer = Refused 1; rec = r } → Right line switch r table out (after o table out)
   unfolding disorder
-  in-order = not-disorder (eqb (length table) 5000) (inOrder r) ordered
+  kept-table z h = rw h (kept-1 (rw (ne-eqb (length table) 5000 z)))
+
+  is-disorder : inOrder r ≡ false → disorder r table ≡ true
+  unfolding disorder
+  is-disorder q = rw q (or-true (not (eqb (length table) 5000)))
+
+  no-disorder : length table ≡ 5000 → inOrder r ≡ true → disorder r table ≡ false
+  unfolding disorder
+  no-disorder z q = rw (eq-eqb (length table) 5000 z, q)
+
+  -- an answer that is right where the record is in order
+  kept-early : (a : Answer) → (inOrder r ≡ true → Right line switch r table out (leaving a r table out)) → {o : Outcome} → o ≡ record { answer = judgedAs a r; rec = r } → Right line switch r table out (after o table out)
+  kept-early a h e = rw e (go (inOrder r) refl)
+    where
+      go : (b : Bool) → inOrder r ≡ b → Right line switch r table out (leaving (cond b a (Refused 1)) r table out)
+      go true q = h q
+      go false q = kept-1 (is-disorder q)
+
+  pub kept-2 : {o : Outcome} → length table ≡ 5000 → 256 < length line → o ≡ record { answer = judgedAs (Refused 2) r; rec = r } → Right line switch r table out (after o table out)
+  unfolding answerTo
+  kept-2 z l h = kept-early (Refused 2) (λ q. by-early (λ e. rw (no-disorder z q, lt-ltb 256 (length line) l))) h
+
+  pub kept-skipped : {o : Outcome} → length table ≡ 5000 → length line ≤ 256 → (switch && slashed line) ≡ true → o ≡ record { answer = judgedAs Skipped r; rec = r } → Right line switch r table out (after o table out)
+  unfolding answerTo
+  kept-skipped z l s h = kept-early Skipped (λ q. by-early (λ e. rw (no-disorder z q, le-ltb 256 (length line) l, s))) h
+
+  -- whatever was read, a record out of order is number 1
+  out-of-order : inOrder r ≡ false → (a : Reading) (lent : Spaces) → workedBy a lent r table out ≡ leaving (Refused 1) r table out
+  unfolding execution
+  out-of-order q (Read w n) lent = rw q
+  out-of-order q (Stopped k) lent = rw q
+  out-of-order q (Wrong p) lent = rw q
+  out-of-order q TooLong lent = rw q
+
+module _ (line : List ℕ) (switch : Bool) (r : Record) (table out : List ℤ) (sized : length table ≡ 5000) (in-order : inOrder r ≡ true) (short : length line ≤ 256) (unskipped : (switch && slashed line) ≡ false) where
+  ordered : disorder r table ≡ false
+  ordered = no-disorder line switch r table out sized in-order
 
   -- a line without a derivation
   underived-answer : answerTo none line switch r table out ≡ leaving (Refused 3) r table out
@@ -185,24 +209,33 @@ module _ (line : List ℕ) (switch : Bool) (r : Record) (table out : List ℤ) (
       where
         go : (e : Took Entry) → lettered (words e) ≡ words e → SoundTook e → length (words e) ≤ 128 → length (settings e) ≤ 64 → (o : Option ℕ) → stopOf e ≡ o → workedBy (outcome e) (stored e old) r table out ≡ answerTo (some e) line switch r table out
         go e l s w n none h = stored-answer e w n h ∙ sym (whole-answer e l s h)
-        go e l s w n (some k) h = rw h (sym (stopped-answer e s k h))
+        go e l s w n (some k) h = rw (h, in-order) (sym (stopped-answer e s k h))
 
-    -- the promise, from any result that is worked from what the reader left
-    kept : {a : Reading} {lent : Spaces} → Reads line table old a lent → {x : After} → x ≡ workedBy a lent r table out → Right line switch r table out x
+    -- the promise, from what the reader left, for a record in order
+    kept-in-order : {a : Reading} {lent : Spaces} → Reads line table old a lent → Right line switch r table out (workedBy a lent r table out)
     unfolding worked
-    kept {a} {lent} p e = record {
-      byTree = λ t d. e ∙ ap (λ (l : Left). worked l r table out) (p .byTree short t d) ∙ tree-answer t d;
-      byNone = λ h. e ∙ ap (λ (l : Left). worked l r table out) (p .byNone short h .is) ∙ sym underived-answer;
+    kept-in-order {a} {lent} p = record {
+      byTree = λ t d. ap (λ (l : Left). worked l r table out) (p .byTree short t d) ∙ tree-answer t d;
+      byNone = λ h. ap (λ (l : Left). worked l r table out) (p .byNone short h .is) ∙ rw in-order (sym underived-answer);
     }
 
-    -- read to its end, and worked
-    pub kept-read : {w n : ℕ} {lent : Spaces} → Reads line table old (Read w n) lent → {o : Outcome} {table′ out′ : List ℤ} →
-        record { outcome = o; out = out′ } ≡ execution (take w (lent .letters)) (take w (lent .values)) r out →
-        table′ ≡ tableAfter (o .answer) (settingsOf (take n (lent .numbers)) (take n (lent .amounts))) table → Right line switch r table out (after o table′ out′)
-    kept-read {w} {n} {lent} p {o} {table′} {out′} e h =
-        kept p (ap (λ (t : List ℤ). after o t out′) h ∙ ap (λ (d : Done). finished d (settingsOf (take n (lent .numbers)) (take n (lent .amounts))) table) e)
+module _ (line : List ℕ) (switch : Bool) (r : Record) (table out : List ℤ) (sized : length table ≡ 5000) (short : length line ≤ 256) (unskipped : (switch && slashed line) ≡ false) (old : Spaces) (roomWords : length (old .letters) ≡ 128) (roomValues : length (old .values) ≡ 128) (roomNumbers : length (old .numbers) ≡ 64) (roomAmounts : length (old .amounts) ≡ 64) where
+  -- and for any record
+  kept : {a : Reading} {lent : Spaces} → Reads line table old a lent → {x : After} → x ≡ workedBy a lent r table out → Right line switch r table out x
+  kept {a} {lent} p e = rw e (go (inOrder r) refl)
+    where
+      go : (b : Bool) → inOrder r ≡ b → Right line switch r table out (workedBy a lent r table out)
+      go true q = kept-in-order line switch r table out sized q short unskipped old roomWords roomValues roomNumbers roomAmounts p
+      go false q = rw (out-of-order line switch r table out q a lent) (kept-1 line switch r table out (is-disorder line switch r table out q))
 
-    -- refused by what was read
-    pub kept-refused : {a : Reading} {lent : Spaces} → Reads line table old a lent → (k : ℕ) → workedBy a lent r table out ≡ leaving (Refused k) r table out → {o : Outcome} →
-        o ≡ record { answer = Refused k; rec = r } → Right line switch r table out (after o table out)
-    kept-refused p k w h = kept p (ap (λ (o : Outcome). after o table out) h ∙ sym w)
+  -- read to its end, and worked
+  pub kept-read : {w n : ℕ} {lent : Spaces} → Reads line table old (Read w n) lent → {o : Outcome} {table′ out′ : List ℤ} →
+      record { outcome = o; out = out′ } ≡ execution (take w (lent .letters)) (take w (lent .values)) r out →
+      table′ ≡ tableAfter (o .answer) (settingsOf (take n (lent .numbers)) (take n (lent .amounts))) table → Right line switch r table out (after o table′ out′)
+  kept-read {w} {n} {lent} p {o} {table′} {out′} e h =
+      kept p (ap (λ (t : List ℤ). after o t out′) h ∙ ap (λ (d : Done). finished d (settingsOf (take n (lent .numbers)) (take n (lent .amounts))) table) e)
+
+  -- refused by what was read
+  pub kept-refused : {a : Reading} {lent : Spaces} → Reads line table old a lent → (k : ℕ) → workedBy a lent r table out ≡ leaving (judgedAs (Refused k) r) r table out → {o : Outcome} →
+      o ≡ record { answer = judgedAs (Refused k) r; rec = r } → Right line switch r table out (after o table out)
+  kept-refused p k w h = kept p (ap (λ (o : Outcome). after o table out) h ∙ sym w)

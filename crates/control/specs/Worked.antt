@@ -1,10 +1,12 @@
--- What is left of a line from what reading it left: settings are applied only where the line is accepted.
+-- What is left of a line from what reading it left: settings are applied only where the line is accepted, and a record out of order comes first.
 -- Assumes nothing.
+use mathlib.Core.Bool.{cond}
 use mathlib.Core.List.{List, [], _∷_}
 use Prim.Native.Nat.{ℕ}
 use lib.IntN.{ℤ}
 use lib.ListN.{take}
 use Rattle.rules.specs.Meaning.{Setting}
+use Rattle.rules.specs.Reach.{inOrder}
 use Rattle.rules.specs.Promise.{After, after, leaving, apply}
 use Rattle.rules.specs.declared.Record.{Record}
 use Rattle.rules.specs.declared.Answer.{Answer}
@@ -13,6 +15,10 @@ use Rattle.reader.specs.Reading.{Spaces, Left}
 use Rattle.reader.specs.declared.line.Reading.{Reading}
 use Rattle.reader.specs.declared.line.Reading.the-variants.{Read, Stopped, Wrong, TooLong}
 use Rattle.block.specs.Execution.{Done, execution}
+
+-- number 1 comes before every other answer
+abbrev pub judgedAs : Answer → Record → Answer
+judgedAs a r = cond (inOrder r) a (Refused 1)
 
 -- settings by their parameter numbers and their values, side by side
 abbrev pub settingsOf : List ℕ → List ℤ → List Setting
@@ -33,9 +39,9 @@ finished d ss table = after (d .outcome) (tableAfter (d .outcome .answer) ss tab
 abbrev pub workedBy : Reading → Spaces → Record → List ℤ → List ℤ → After
 workedBy (Read w n) sp r table out =
     finished (execution (take w (sp .letters)) (take w (sp .values)) r out) (settingsOf (take n (sp .numbers)) (take n (sp .amounts))) table
-workedBy (Stopped k) sp r table out = leaving (Refused k) r table out
-workedBy (Wrong p) sp r table out = leaving (Refused 3) r table out
-workedBy TooLong sp r table out = leaving (Refused 2) r table out
+workedBy (Stopped k) sp r table out = leaving (judgedAs (Refused k) r) r table out
+workedBy (Wrong p) sp r table out = leaving (judgedAs (Refused 3) r) r table out
+workedBy TooLong sp r table out = leaving (judgedAs (Refused 2) r) r table out
 
 unfoldable pub worked : Left → Record → List ℤ → List ℤ → After
 worked l r table out = workedBy (l .answer) (l .lent) r table out

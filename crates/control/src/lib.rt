@@ -3,10 +3,10 @@ ghost use mathlib.Core.Path.{_≡_};
 ghost use mathlib.Core.Bool.{false, _&&_};
 ghost use Prim.Native.Nat.{_≤_};
 ghost use lib.ListN.{length, take, set};
-ghost use Rattle.rules.specs.Promise.{Right, after, leaving, apply, disorder, slashed};
+ghost use Rattle.rules.specs.Promise.{Right, after, leaving, apply, slashed};
 ghost use Rattle.block.specs.Execution.{execution};
 ghost use Rattle.rules.specs.declared.Answer.the-variants.{Refused};
-ghost use Rattle.control.specs.Worked.{settingsOf, tableAfter};
+ghost use Rattle.control.specs.Worked.{judgedAs, settingsOf, tableAfter};
 use reader::Reading;
 use rules::Answer;
 use rules::Outcome;
@@ -24,17 +24,14 @@ pub fn interpret(
 ) -> Outcome
     ensures { λ r. ⌜ Right (now (line .entry)) switch rec (now (table .entry)) (now (out .entry)) (after r (now (table .exit)) (now (out .exit))) ⌝ }
 {
-    if out_of_order(rec, table) {
+    if table.len() != 5000 {
         return refused(1, rec);
     }
     if 256 < line.len() {
-        return refused(2, rec);
+        return answered(Answer::Refused(2), rec);
     }
     if skips(line, switch) {
-        return Outcome {
-            answer: Answer::Skipped,
-            rec: rec,
-        };
+        return answered(Answer::Skipped, rec);
     }
     read_and_work(line, switch, rec, table, out)
 }
@@ -48,17 +45,18 @@ fn refused(number: u8, rec: Record) -> Outcome
     }
 }
 
-// Number 1: the table has not 5,000 entries, or a field of the record is outside its range.
-fn out_of_order(rec: Record, table: &[i64]) -> bool
-    ensures { λ r. ⌜ r ≡ disorder rec (now (table .entry)) ⌝ }
+// What answers a line that is not worked, where the record is in order. A record out of order comes before it. `block`
+// judges the record of a line that is worked, so that no line has it judged twice.
+fn answered(answer: Answer, rec: Record) -> Outcome
+    ensures { λ r. ⌜ r ≡ record { answer = judgedAs answer rec; rec = rec } ⌝ }
 {
-    if table.len() == 5000 {
-        if record::in_order(rec) {
-            return false;
-        }
-        return true;
+    if record::in_order(rec) {
+        return Outcome {
+            answer: answer,
+            rec: rec,
+        };
     }
-    true
+    refused(1, rec)
 }
 
 // With the switch on, a line whose first byte that is no blank is `/`.
@@ -85,7 +83,7 @@ fn slashed(line: &[u8]) -> bool
     false
 }
 
-// A line that is neither 1, 2 nor skipped: what is read of it decides.
+// A line that neither its length nor the switch keeps from being read: what is read of it decides.
 fn read_and_work(
     line: &[u8],
     switch: bool,
@@ -93,7 +91,7 @@ fn read_and_work(
     table: &mut [i64],
     out: &mut [i64],
 ) -> Outcome
-    requires { ⌜ (disorder rec (now table) ≡ false) × (length (now line) ≤ 256) × ((switch && slashed (now line)) ≡ false) ⌝ }
+    requires { ⌜ (length (now table) ≡ 5000) × (length (now line) ≤ 256) × ((switch && slashed (now line)) ≡ false) ⌝ }
     ensures { λ r. ⌜ Right (now (line .entry)) switch rec (now (table .entry)) (now (out .entry)) (after r (now (table .exit)) (now (out .exit))) ⌝ }
 {
     let mut letters = [0u8; 128];
@@ -119,9 +117,9 @@ fn read_and_work(
             table,
             out,
         ),
-        Reading::Stopped(number) => refused(number, rec),
-        Reading::Wrong(_) => refused(3, rec),
-        Reading::TooLong => refused(2, rec),
+        Reading::Stopped(number) => answered(Answer::Refused(number), rec),
+        Reading::Wrong(_) => answered(Answer::Refused(3), rec),
+        Reading::TooLong => answered(Answer::Refused(2), rec),
     }
 }
 

@@ -1,16 +1,18 @@
-use Rattle.control.proofs.Keeping.{by-test, kept-1, kept-2, kept-skipped}
+-- `control::interpret` meets its contract: what is asked before the line is read, in its order.
+-- Assumes nothing.
+use Rattle.control.proofs.Keeping.{by-test, kept-table, kept-2, kept-skipped}
 use borrow.Author.Needs.{needs}
 use Rattle.control.proofs.interpret.Statement.{statement}
 use Rattle.control.proofs.interpret.Tie as tie
 use Rattle.control.proofs.interpret.Reads as reads
 use Rattle.control.proofs.interpret.Lts as lts
-use Rattle.control.proofs.out_of_order.Reads as out-of-order-reads
+use Rattle.control.proofs.answered.Reads as answered-reads
 use Rattle.control.proofs.read_and_work.Reads as read-and-work-reads
 use Rattle.control.proofs.refused.Reads as refused-reads
 use Rattle.control.proofs.skips.Reads as skips-reads
 
 returns : tie.Need-returns
-returns c = search (needs, kept-1, by-test)
+returns c = search (needs, kept-table)
 
 returns-2 : tie.Need-returns-2
 returns-2 c = search (needs, kept-2, by-test)
@@ -26,14 +28,11 @@ interpret-spec =
     tie.close
     (tie.spec
     (λ c κs. search needs)
-    (λ c κs. search needs)
-    (λ c. search needs)
     returns
     (λ c κs. search needs)
-    (λ c. search needs)
     returns-2
     (λ c κs. search needs)
-    (λ c. search needs)
+    (λ c κs. search needs)
     returns-3
     read-and-work-requires
     (λ c. search needs)
