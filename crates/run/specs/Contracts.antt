@@ -1,21 +1,26 @@
 -- What the functions of the run promise: of a line, of a byte, of some bytes, of a piece and of the end of the input.
 -- Assumes nothing.
 use mathlib.Core.Path.{_≡_}
-use mathlib.Core.Bool.{false}
+use mathlib.Core.Bool.{Bool, false, cond}
 use mathlib.Core.List.{List}
 use mathlib.Core.Option.{Option}
 use Prim.Native.Nat.{ℕ, _+_}
 use lib.ListN.{drop}
 use lib.IntN.{ℤ}
 use Rattle.grammar.specs.Grammar.{Line}
+use Rattle.rules.specs.Frames.{withoutReturn}
 use Rattle.run.specs.declared.State.{State}
-use Rattle.run.specs.Stands.{Stand, stand, Taken, heldTo, lineWorked, closed, stepped, stopped, fed, feeding, finishing, Tells}
+use Rattle.run.specs.Stands.{Stand, stand, Taken, heldOf, heldTo, lineWorked, closed, stepped, stopped, fed, feeding, finishing, Tells}
 
 abbrev pub Works : List ℕ → Stand → Stand → Type 0
 Works l st after = (tree : List ℕ → Option Line) → Tells tree → after ≡ lineWorked tree l st
 
 abbrev pub Steps : Stand → ℕ → Stand → Type 0
 Steps st b after = (tree : List ℕ → Option Line) → Tells tree → after ≡ stepped tree st b
+
+-- a line that a line feed has ended, or the last one
+abbrev pub EndsLine : Bool → Stand → Stand → Type 0
+EndsLine fed st after = (tree : List ℕ → Option Line) → Tells tree → after ≡ cond fed (lineWorked tree (withoutReturn (heldOf st)) st) (closed tree st)
 
 abbrev pub Ends : Stand → Stand → Type 0
 Ends st after = (tree : List ℕ → Option Line) → Tells tree → after ≡ closed tree st

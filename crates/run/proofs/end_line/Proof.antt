@@ -1,48 +1,51 @@
-use Rattle.run.proofs.Branches.{none-held, none-held-last, line-steps, full-steps}
-use Rattle.rules.specs.Frames.{withoutReturn}
-use Rattle.run.specs.Stands.{stand, heldOf}
+-- `run::end_line` meets its contract: a line feed, a last line without a byte, and one with a byte.
+-- Assumes nothing.
+use mathlib.Core.Path.{refl, ap, _∙_}
+use mathlib.Core.List.{List}
+use Prim.Native.Nat.{ℕ}
 use borrow.Author.Needs.{needs}
+use Rattle.rules.specs.Frames.{withoutReturn}
+use Rattle.run.specs.Stands.{stand, going, heldOf, lineWorked}
+use Rattle.run.proofs.Branches.{held-works, fed-ends, last-ends, empty-closes, line-closes}
 use Rattle.run.proofs.end_line.Statement.{statement}
 use Rattle.run.proofs.end_line.Tie as tie
-use Rattle.run.proofs.end_line.Reads as reads
-use Rattle.run.proofs.end_line.Lts as lts
-use Rattle.run.proofs.close.Reads as close-reads
-use Rattle.run.proofs.feed_line.Reads as feed-line-reads
-
-feed-line-requires : tie.Need-feed-line-requires
-feed-line-requires c κs = c .before .before .before .before .before .before .pre .0
 
 returns : tie.Need-returns
 returns c =
-    let s = c .before .before .before .before .before .before .before .before .before .before .before .args in
-    let p = c .before .before .before .before .before .before .before .before .before .before .before .pre in
-    let w = c .before .before .before .before .feed-line .ensures in
-    let st = stand (s .state) (s .line .now) (s .table .now) (s .out .now) (s .text .now) (s .filled) in
-    (none-held (withoutReturn (heldOf st)) st w, line-steps st (s .byte) (p .1) (c .before .before .before .before .before .before .before .before .if1 .taken) w)
-
-close-requires : tie.Need-close-requires
-close-requires c κs = c .before .before .before .before .before .before .pre .0
+    let s = c .before .before .before .before .before .before .before .before .before .before .before .before .args in
+    let st = stand (going (s .rec) (s .held)) (s .line .now) (s .table .now) (s .out .now) (s .text .now) (s .filled) in
+    let none = stand (going (s .rec) 0) (s .line .now) (s .table .now) (s .out .now) (s .text .now) (s .filled) in
+    fed-ends st (c .before .before .before .before .before .before .before .before .before .if1 .taken)
+    (held-works (withoutReturn (heldOf st)) (s .rec) (s .held) (s .line .now) (s .table .now) (s .out .now) (s .text .now) (s .filled)
+    (λ tree tells. c .before .before .before .before .work .ensures tree tells ∙ ap (λ (l : List ℕ). lineWorked tree l none) (c .before .before .before .before .before .before .before .before .without-return .ensures .1)))
 
 returns-2 : tie.Need-returns-2
 returns-2 c =
-    let s = c .before .before .before .before .before .before .before .before .before .before .before .args in
-    let p = c .before .before .before .before .before .before .before .before .before .before .before .pre in
-    let w = c .before .before .before .before .close .ensures in
-    let other = c .before .before .before .before .before .before .before .before .if1 .left in
-    let st = stand (s .state) (s .line .now) (s .table .now) (s .out .now) (s .text .now) (s .filled) in
-    (none-held-last st (p .1) w, full-steps st (s .byte) (p .1) other (p .2 other) w)
+    let s = c .before .before .before .before .args in
+    let st = stand (going (s .rec) (s .held)) (s .line .now) (s .table .now) (s .out .now) (s .text .now) (s .filled) in
+    last-ends st (c .before .if1 .left) (empty-closes st refl (c .if2 .taken))
+
+returns-3 : tie.Need-returns-3
+returns-3 c =
+    let s = c .before .before .before .before .before .before .before .before .before .before .before .before .args in
+    let st = stand (going (s .rec) (s .held)) (s .line .now) (s .table .now) (s .out .now) (s .text .now) (s .filled) in
+    last-ends st (c .before .before .before .before .before .before .before .before .before .if1 .left)
+    (line-closes st refl (c .before .before .before .before .before .before .before .before .if2 .left)
+    (held-works (heldOf st) (s .rec) (s .held) (s .line .now) (s .table .now) (s .out .now) (s .text .now) (s .filled) (c .before .before .before .before .work2 .ensures)))
 
 pub end-line-spec : {M : Type 1} → statement M
 end-line-spec =
     tie.close
     (tie.spec
-    feed-line-requires
+    (λ c κs. search needs)
+    (λ c κs. search needs)
     (λ c. search needs)
     (λ c. search needs)
     (λ c. search needs)
     returns
-    close-requires
+    returns-2
+    (λ c κs. search needs)
     (λ c. search needs)
     (λ c. search needs)
     (λ c. search needs)
-    returns-2)
+    returns-3)
