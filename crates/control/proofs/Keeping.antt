@@ -34,7 +34,7 @@ use Rattle.reader.specs.declared.line.Reading.{Reading}
 use Rattle.reader.specs.declared.line.Reading.the-variants.{Read, Stopped, Wrong, TooLong}
 use Rattle.summary.specs.Words.{said, lettered}
 use Rattle.block.specs.Execution.{allInRange, Done, done, doneBy, executed, execution}
-use Rattle.control.specs.Worked.{judgedAs, settingsOf, tableAfter, finished, workedBy, worked}
+use Rattle.control.specs.Worked.{judgedAs, settingsOf, tableAfter, finished, workedBy, worked, unread, lentAfter, Lends}
 use Rattle.rules.proofs.Sound.{SoundTook, entries-sound}
 use Rattle.reader.proofs.Demand3.{line-counts}
 use Rattle.control.proofs.Words.{entries-lettered}
@@ -239,3 +239,25 @@ module _ (line : List ℕ) (switch : Bool) (r : Record) (table out : List ℤ) (
   pub kept-refused : {a : Reading} {lent : Spaces} → Reads line table old a lent → (k : ℕ) → workedBy a lent r table out ≡ leaving (judgedAs (Refused k) r) r table out → {o : Outcome} →
       o ≡ record { answer = judgedAs (Refused k) r; rec = r } → Right line switch r table out (after o table out)
   kept-refused p k w h = kept p (ap (λ (o : Outcome). after o table out) h ∙ sym w)
+
+-- ---- the lent spaces
+module _ (line : List ℕ) (switch : Bool) (table : List ℤ) (old : Spaces) where
+  lends-old : unread line switch table ≡ true → Lends line switch table old old
+  unfolding lentAfter
+  lends-old u = record { byTree = λ t d. rw u; byNone = λ h. rw u }
+
+  pub lends-table : (length table ≡ 5000 → ⊥) → Lends line switch table old old
+  lends-table z = lends-old (rw (ne-eqb (length table) 5000 z))
+
+  module _ (sized : length table ≡ 5000) where
+    pub lends-long : 256 < length line → Lends line switch table old old
+    lends-long l = lends-old (rw (eq-eqb (length table) 5000 sized, lt-ltb 256 (length line) l))
+
+    pub lends-skipped : length line ≤ 256 → (switch && slashed line) ≡ true → Lends line switch table old old
+    lends-skipped l s = lends-old (rw (eq-eqb (length table) 5000 sized, le-ltb 256 (length line) l, s))
+
+    pub lends-read : length line ≤ 256 → (switch && slashed line) ≡ false → {a : Reading} {lent : Spaces} → Reads line table old a lent → Lends line switch table old lent
+    unfolding lentAfter
+    lends-read l s p =
+        let u : unread line switch table ≡ false = rw (eq-eqb (length table) 5000 sized, le-ltb 256 (length line) l, s) in
+        record { byTree = λ t d. rw u (ap (λ (x : Left). x .lent) (p .byTree l t d)); byNone = λ h. rw u (ap (λ (x : Left). x .lent) (p .byNone l h .is)) }

@@ -4,6 +4,7 @@ use mathlib.Core.Path.{refl}
 use Rattle.laws.proofs.Sole.{Sole}
 use Rattle.grammar.proofs.ByForm.{by-form-sole}
 use Rattle.control.proofs.interpret as interpret
+use Rattle.control.proofs.interpret_in as interpretIn
 use Rattle.control.proofs.step as step
 use Rattle.control.proofs.work as work
 
@@ -12,6 +13,16 @@ interpret-sole = record {
   says = _;
   is = λ M 𝓤 H A mem run κs a ghost r e. refl;
   one = λ κs a r r′ ws ws′ p q. let e = by-form-sole p q in (λ i. e i .outcome, λ i. (tt, (tt, (tt, (e i .table, (e i .out, tt))))));
+}
+
+pub interpretIn-sole : Sole interpretIn.ended (λ M. interpretIn.clauses)
+interpretIn-sole = record {
+  says = _;
+  is = λ M 𝓤 H A mem run κs a ghost r e. refl;
+  one = λ κs a r r′ ws ws′ p q.
+      let e = by-form-sole (p .0) (q .0) in
+      let l = by-form-sole (p .1) (q .1) in
+      (λ i. e i .outcome, λ i. (tt, (tt, (tt, (e i .table, (e i .out, (l i .letters, (l i .values, (l i .numbers, (l i .amounts, tt))))))))));
 }
 
 pub step-sole : Sole step.ended (λ M. step.clauses)

@@ -1,17 +1,21 @@
 -- What is left of a line from what reading it left: settings are applied only where the line is accepted, and a record out of order comes first.
 -- Assumes nothing.
-use mathlib.Core.Bool.{cond}
+use mathlib.Core.Bool.{Bool, cond, not, _&&_, _||_}
 use mathlib.Core.List.{List, [], _∷_}
+use mathlib.Core.Option.{Option, none, some}
 use Prim.Native.Nat.{ℕ}
+use lib.Dec.{eqb, ltb}
 use lib.IntN.{ℤ}
-use lib.ListN.{take}
+use lib.ListN.{length, take}
+use Rattle.grammar.specs.Grammar.{Line}
+use Rattle.grammar.specs.Derivation.{ByForm}
 use Rattle.rules.specs.Meaning.{Setting}
 use Rattle.rules.specs.Reach.{inOrder}
-use Rattle.rules.specs.Promise.{After, after, leaving, apply}
+use Rattle.rules.specs.Promise.{After, after, leaving, apply, slashed}
 use Rattle.rules.specs.declared.Record.{Record}
 use Rattle.rules.specs.declared.Answer.{Answer}
 use Rattle.rules.specs.declared.Answer.the-variants.{Accepted, Refused, Skipped}
-use Rattle.reader.specs.Reading.{Spaces, Left}
+use Rattle.reader.specs.Reading.{Spaces, Left, zeros, leaves}
 use Rattle.reader.specs.declared.line.Reading.{Reading}
 use Rattle.reader.specs.declared.line.Reading.the-variants.{Read, Stopped, Wrong, TooLong}
 use Rattle.block.specs.Execution.{Done, execution}
@@ -45,3 +49,17 @@ workedBy TooLong sp r table out = leaving (judgedAs (Refused 2) r) r table out
 
 unfoldable pub worked : Left → Record → List ℤ → List ℤ → After
 worked l r table out = workedBy (l .answer) (l .lent) r table out
+
+-- the spaces for words and settings: a line that is not read leaves them as they were, any other as reading leaves them
+abbrev pub unread : List ℕ → Bool → List ℤ → Bool
+unread line switch table = not (eqb (length table) 5000) || ltb 256 (length line) || (switch && slashed line)
+
+abbrev pub lentBy : Option Line → List ℤ → Spaces → Spaces
+lentBy none table old = zeros
+lentBy (some t) table old = leaves table old t .lent
+
+unfoldable pub lentAfter : Option Line → List ℕ → Bool → List ℤ → Spaces → Spaces
+lentAfter f line switch table old = cond (unread line switch table) old (lentBy f table old)
+
+abbrev pub Lends : List ℕ → Bool → List ℤ → Spaces → Spaces → Type 0
+Lends line switch table old lent = ByForm line (λ f. lentAfter f line switch table old) lent

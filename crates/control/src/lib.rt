@@ -6,7 +6,8 @@ ghost use lib.ListN.{length, take, set};
 ghost use Rattle.rules.specs.Promise.{Right, after, leaving, apply, slashed};
 ghost use Rattle.block.specs.Execution.{execution};
 ghost use Rattle.rules.specs.declared.Answer.the-variants.{Refused};
-ghost use Rattle.control.specs.Worked.{judgedAs, settingsOf, tableAfter};
+ghost use Rattle.reader.specs.Reading.{spaces};
+ghost use Rattle.control.specs.Worked.{judgedAs, Lends, settingsOf, tableAfter};
 use reader::Reading;
 use rules::Answer;
 use rules::Outcome;
@@ -24,6 +25,37 @@ pub fn interpret(
 ) -> Outcome
     ensures { λ r. ⌜ Right (now (line .entry)) switch rec (now (table .entry)) (now (out .entry)) (after r (now (table .exit)) (now (out .exit))) ⌝ }
 {
+    let mut letters = [0u8; 128];
+    let mut values = [0i64; 128];
+    let mut numbers = [0usize; 64];
+    let mut amounts = [0i64; 64];
+    interpret_in(
+        line,
+        switch,
+        rec,
+        table,
+        out,
+        &mut letters,
+        &mut values,
+        &mut numbers,
+        &mut amounts,
+    )
+}
+
+// The same with spaces lent for the line's words and settings: whoever works many lines lays them out once.
+pub fn interpret_in(
+    line: &[u8],
+    switch: bool,
+    rec: Record,
+    table: &mut [i64],
+    out: &mut [i64],
+    letters: &mut [u8; 128],
+    values: &mut [i64; 128],
+    numbers: &mut [usize; 64],
+    amounts: &mut [i64; 64],
+) -> Outcome
+    ensures { λ r. ⌜ Right (now (line .entry)) switch rec (now (table .entry)) (now (out .entry)) (after r (now (table .exit)) (now (out .exit))) × Lends (now (line .entry)) switch (now (table .entry)) (spaces (now (letters .entry)) (now (values .entry)) (now (numbers .entry)) (now (amounts .entry))) (spaces (now (letters .exit)) (now (values .exit)) (now (numbers .exit)) (now (amounts .exit))) ⌝ }
+{
     if table.len() != 5000 {
         return refused(1, rec);
     }
@@ -33,8 +65,28 @@ pub fn interpret(
     if skips(line, switch) {
         return answered(Answer::Skipped, rec);
     }
-    read_and_work(line, switch, rec, table, out)
+    sized(letters, values, numbers, amounts);
+    read_and_work(
+        line,
+        switch,
+        rec,
+        table,
+        out,
+        letters,
+        values,
+        numbers,
+        amounts,
+    )
 }
+
+// The lent spaces are as long as their types say. That is known where slices are made of them, and not before.
+fn sized(letters: &[u8; 128], values: &[i64; 128], numbers: &[usize; 64], amounts: &[i64; 64])
+    ensures { λ _. ⌜ (length (now (letters .entry)) ≡ 128) × (length (now (values .entry)) ≡ 128) × (length (now (numbers .entry)) ≡ 64) × (length (now (amounts .entry)) ≡ 64) ⌝ }
+{
+    slices(letters, values, numbers, amounts);
+}
+
+fn slices(_letters: &[u8], _values: &[i64], _numbers: &[usize], _amounts: &[i64]) {}
 
 fn refused(number: u8, rec: Record) -> Outcome
     ensures { λ r. ⌜ r ≡ record { answer = Refused number; rec = rec } ⌝ }
@@ -90,28 +142,21 @@ fn read_and_work(
     rec: Record,
     table: &mut [i64],
     out: &mut [i64],
+    letters: &mut [u8; 128],
+    values: &mut [i64; 128],
+    numbers: &mut [usize; 64],
+    amounts: &mut [i64; 64],
 ) -> Outcome
-    requires { ⌜ (length (now table) ≡ 5000) × (length (now line) ≤ 256) × ((switch && slashed (now line)) ≡ false) ⌝ }
-    ensures { λ r. ⌜ Right (now (line .entry)) switch rec (now (table .entry)) (now (out .entry)) (after r (now (table .exit)) (now (out .exit))) ⌝ }
+    requires { ⌜ (length (now table) ≡ 5000) × (length (now line) ≤ 256) × ((switch && slashed (now line)) ≡ false) × (length (now letters) ≡ 128) × (length (now values) ≡ 128) × (length (now numbers) ≡ 64) × (length (now amounts) ≡ 64) ⌝ }
+    ensures { λ r. ⌜ Right (now (line .entry)) switch rec (now (table .entry)) (now (out .entry)) (after r (now (table .exit)) (now (out .exit))) × Lends (now (line .entry)) switch (now (table .entry)) (spaces (now (letters .entry)) (now (values .entry)) (now (numbers .entry)) (now (amounts .entry))) (spaces (now (letters .exit)) (now (values .exit)) (now (numbers .exit)) (now (amounts .exit))) ⌝ }
 {
-    let mut letters = [0u8; 128];
-    let mut values = [0i64; 128];
-    let mut numbers = [0usize; 64];
-    let mut amounts = [0i64; 64];
-    match reader::read(
-        line,
-        table,
-        &mut letters,
-        &mut values,
-        &mut numbers,
-        &mut amounts,
-    ) {
+    match reader::read(line, table, letters, values, numbers, amounts) {
         Reading::Read(words, settings) => finish(
-            &letters,
-            &values,
+            letters,
+            values,
             words,
-            &numbers,
-            &amounts,
+            numbers,
+            amounts,
             settings,
             rec,
             table,
