@@ -12,12 +12,12 @@ use Rattle.run.proofs.end_line.Tie as tie
 
 returns : tie.Need-returns
 returns c =
-    let s = c .before .before .before .before .before .before .before .before .before .before .before .before .args in
+    let s = c .before .before .before .before .before .before .before .before .before .before .before .before .before .before .before .before .args in
     let st = stand (going (s .rec) (s .held)) (s .line .now) (s .table .now) (s .out .now) (s .text .now) (s .filled) in
     let none = stand (going (s .rec) 0) (s .line .now) (s .table .now) (s .out .now) (s .text .now) (s .filled) in
-    fed-ends st (c .before .before .before .before .before .before .before .before .before .if1 .taken)
+    fed-ends st (c .before .before .before .before .before .before .before .before .before .before .before .before .before .if1 .taken)
     (held-works (withoutReturn (heldOf st)) (s .rec) (s .held) (s .line .now) (s .table .now) (s .out .now) (s .text .now) (s .filled)
-    (λ tree tells. c .before .before .before .before .work .ensures tree tells ∙ ap (λ (l : List ℕ). lineWorked tree l none) (c .before .before .before .before .before .before .before .before .without-return .ensures .1)))
+    (λ tree tells. c .before .before .before .before .work .ensures tree tells ∙ ap (λ (l : List ℕ). lineWorked tree l none) (c .before .before .before .before .before .before .before .before .before .before .before .before .without-return .ensures .1)))
 
 returns-2 : tie.Need-returns-2
 returns-2 c =
@@ -27,10 +27,10 @@ returns-2 c =
 
 returns-3 : tie.Need-returns-3
 returns-3 c =
-    let s = c .before .before .before .before .before .before .before .before .before .before .before .before .args in
+    let s = c .before .before .before .before .before .before .before .before .before .before .before .before .before .before .before .before .args in
     let st = stand (going (s .rec) (s .held)) (s .line .now) (s .table .now) (s .out .now) (s .text .now) (s .filled) in
-    last-ends st (c .before .before .before .before .before .before .before .before .before .if1 .left)
-    (line-closes st refl (c .before .before .before .before .before .before .before .before .if2 .left)
+    last-ends st (c .before .before .before .before .before .before .before .before .before .before .before .before .before .if1 .left)
+    (line-closes st refl (c .before .before .before .before .before .before .before .before .before .before .before .before .if2 .left)
     (held-works (heldOf st) (s .rec) (s .held) (s .line .now) (s .table .now) (s .out .now) (s .text .now) (s .filled) (c .before .before .before .before .work2 .ensures)))
 
 pub end-line-spec : {M : Type 1} → statement M

@@ -39,23 +39,23 @@ shared-slice-read-fed c =
     omega (arith, e .0)
 
 end-line-requires : tie.Need-end-line-requires
-end-line-requires c κs = c .before .before .before .before .before .before .before .before .before .hold .ensures .1
+end-line-requires c κs = c .before .before .before .before .before .before .before .before .before .before .before .before .before .hold .ensures .1
 
-add-t18 : tie.Need-add-t18
-add-t18 c =
-    let s = c .before .before .before .before .before .before .before .before .before .before .before .before .before .before .before .before .before .before .before .before .before .good in
-    let e = c .before .before .before .before .before .before .before .before .before .before .before .before .before .before .before .hold .ensures in
-    let last = c .before .before .before .before .before .before .before .before .before .before .before .if1 .left in
+add-t22 : tie.Need-add-t22
+add-t22 c =
+    let s = c .before .before .before .before .before .before .before .before .before .before .before .before .before .before .before .before .before .before .before .before .before .before .before .before .before .good in
+    let e = c .before .before .before .before .before .before .before .before .before .before .before .before .before .before .before .before .before .before .before .hold .ensures in
+    let last = c .before .before .before .before .before .before .before .before .before .before .before .before .before .before .before .if1 .left in
     omega (arith, e .0)
 
 returns-2 : tie.Need-returns-2
 returns-2 c =
-    let s = c .before .before .before .before .before .before .before .before .before .before .before .before .before .before .before .before .before .before .before .before .before .args in
-    let p = c .before .before .before .before .before .before .before .before .before .before .before .before .before .before .before .before .before .before .before .before .before .pre in
-    let h = c .before .before .before .before .before .before .before .before .before .before .before .before .before .before .before .hold in
+    let s = c .before .before .before .before .before .before .before .before .before .before .before .before .before .before .before .before .before .before .before .before .before .before .before .before .before .args in
+    let p = c .before .before .before .before .before .before .before .before .before .before .before .before .before .before .before .before .before .before .before .before .before .before .before .before .before .pre in
+    let h = c .before .before .before .before .before .before .before .before .before .before .before .before .before .before .before .before .before .before .before .hold in
     let e = h .ensures in
     let w = c .before .before .before .before .before .end-line .ensures in
-    let last = c .before .before .before .before .before .before .before .before .before .before .before .if1 .left in
+    let last = c .before .before .before .before .before .before .before .before .before .before .before .before .before .before .before .if1 .left in
     let at = s .from + h .result in
     let held = s .state .held + h .result in
     let b = getD (s .piece .now) at 0 in
@@ -76,7 +76,7 @@ take-line-spec =
     returns
     shared-slice-read-fed
     end-line-requires
-    add-t18
+    add-t22
     (λ c. search needs)
     (λ c. search needs)
     (λ c. search needs)
