@@ -6,7 +6,7 @@ use std::io::{self, Read, Write};
 
 /// A value's reach, in ten-thousandths of a program unit.
 const LARGEST_VALUE: i64 = 999_999_999;
-/// Digits without end stay here: they must not overflow, and more decimals cannot make a value of them.
+/// Digits without end stay here: they must not overflow, and five decimals cannot make a value of them.
 const FAR_TOO_LARGE: u64 = 10_000_000_000;
 /// A position's, centre's, origin's or offset's reach, in counts of 10 nm.
 const REACH: i64 = 1_000_000_000;
@@ -28,7 +28,7 @@ type Refusal = u8;
 const OUT_OF_ORDER: Refusal = 1;
 const TOO_LONG: Refusal = 2;
 const WRONG_FORM: Refusal = 3;
-const TOO_FINE: Refusal = 4;
+// 4, a number with more than four decimals, is kept in the list and never given.
 const OUT_OF_RANGE: Refusal = 5;
 const DIVISOR_ZERO: Refusal = 6;
 const NO_PARAMETER: Refusal = 7;
@@ -174,7 +174,7 @@ fn in_reach(length: i64) -> bool {
 
 // ---------------------------------------------------------------- Arithmetic
 
-/// A value, or which of 4 to 7 was met first in working it out. It is carried and not returned at once, because
+/// A value, or which of 5 to 7 was met first in working it out. It is carried and not returned at once, because
 /// a wrong form further on goes before it.
 #[derive(Clone, Copy)]
 struct Value {
@@ -328,6 +328,21 @@ impl Reader<'_> {
         }
     }
 
+    /// The number of more than four decimals that ends here: the fifth decides how four are rounded. They are so seldom
+    /// that nothing is kept for them: the digits are looked for backwards, and the blanks between them passed over.
+    #[cold]
+    #[inline(never)]
+    fn fine(&self, negative: bool) -> Value {
+        let other = |byte: &u8| !byte.is_ascii_digit() && *byte != b'.' && RAISED[*byte as usize] != 0;
+        let text = &self.line[..self.place];
+        let text = &text[text.iter().rposition(other).map_or(0, |place| place + 1)..];
+        let (whole, decimals) = text.split_at(text.iter().position(|&byte| byte == b'.').unwrap_or(text.len()));
+        let digit = |byte: &&u8| byte.is_ascii_digit();
+        let five = whole.iter().filter(digit).chain(decimals.iter().filter(digit).take(5));
+        let amount = five.fold(0, |amount: u64, byte| (amount * 10 + (byte - b'0') as u64).min(FAR_TOO_LARGE));
+        scaled((amount + 5) / 10, 1, negative)
+    }
+
     #[inline(always)]
     fn number(&mut self, first: u8) -> Option<Value> {
         if first == b'-' || first == b'+' {
@@ -342,7 +357,10 @@ impl Reader<'_> {
         if whole + decimals == 0 {
             return None;
         }
-        Some(scaled(amount, decimals, first == b'-'))
+        let Some(&scale) = SCALES.get(decimals) else {
+            return Some(self.fine(first == b'-'));
+        };
+        Some(scaled(amount, scale, first == b'-'))
     }
 
     /// A number is by far the most frequent value, so it alone is read where the value is wanted.
@@ -442,11 +460,12 @@ impl Reader<'_> {
     }
 }
 
-/// A number as written: its digits, how many of them stand after the point, and its sign.
+/// What the last of no, one, .. four decimals counts.
+const SCALES: [i64; 5] = [10_000, 1_000, 100, 10, 1];
+
+/// A number as written: its digits, what the last of them counts, and its sign.
 #[inline(always)]
-fn scaled(digits: u64, decimals: usize, negative: bool) -> Value {
-    const SCALES: [i64; 5] = [10_000, 1_000, 100, 10, 1];
-    let Some(scale) = SCALES.get(decimals) else { return refused(TOO_FINE) };
+fn scaled(digits: u64, scale: i64, negative: bool) -> Value {
     let size = digits as i64 * scale;
     if size > LARGEST_VALUE {
         return refused(OUT_OF_RANGE);

@@ -3,7 +3,7 @@
  * has the machine do. Where a firmware would drive the machine, this prints.
  *
  * The first refused line ends the session, since the lines after it were written for a machine that has worked
- * it: after G1 Z-3, a refused G0 Z5.12345 and then G0 X0 Y0 would be a rapid through the work. Which line it is,
+ * it: after G1 Z-3, a refused G0 Z100000 and then G0 X0 Y0 would be a rapid through the work. Which line it is,
  * counted from 1, and why, is told on standard error, and the exit status is 1.
  */
 #include <inttypes.h>

@@ -9,20 +9,20 @@
 
 /* Hundreds go up when something that a firmware relies on changes its meaning, ones when something is added.
    The headers and the libraries of one checkout belong together. */
-#define RS274_VERSION 100
+#define RS274_VERSION 101
 
 enum {
     RS274_LINE = 256 /* the most bytes that a line may have, without its end marker */
 };
 
-/* The number that a line carries. Where several apply it is the lowest, but of 4 to 7 the first that is met while
+/* The number that a line carries. Where several apply it is the lowest, but of 5 to 7 the first that is met while
    the line's values are worked out. A skip is decided after 2: what else is wrong with the line is not looked for. */
 enum {
     RS274_ACCEPTED = 0,
     RS274_REFUSED_OUT_OF_ORDER = 1,
     RS274_REFUSED_LENGTH = 2,
     RS274_REFUSED_FORM = 3,
-    RS274_REFUSED_DECIMALS = 4,
+    RS274_REFUSED_DECIMALS = 4, /* kept in the list, never given: a number may have any decimals */
     RS274_REFUSED_RANGE = 5,
     RS274_REFUSED_DIVISOR = 6,
     RS274_REFUSED_PARAMETER = 7,
@@ -44,7 +44,7 @@ static inline const char *rs274_why(uint32_t number) {
     case RS274_REFUSED_OUT_OF_ORDER: return "the session's record or the parameter table is out of order";
     case RS274_REFUSED_LENGTH: return "the line has more than 256 bytes";
     case RS274_REFUSED_FORM: return "the line is of wrong form";
-    case RS274_REFUSED_DECIMALS: return "a number has more than four digits after its point, zeros counted";
+    case RS274_REFUSED_DECIMALS: return "no line carries it any more: a number may have any digits after its point";
     case RS274_REFUSED_RANGE: return "a value written, worked out or read from a parameter is beyond 99999.9999";
     case RS274_REFUSED_DIVISOR: return "a divisor of / or MOD is zero";
     case RS274_REFUSED_PARAMETER: return "a parameter number is not a whole number from 1 to 4999";
@@ -71,7 +71,6 @@ static inline const char *rs274_remedy(uint32_t number) {
     case RS274_REFUSED_FORM:
         return "look for a letter that begins no word, a bracket or comment left open, a sign before a bracket or a"
                " parameter, or a line end handed over with the line";
-    case RS274_REFUSED_DECIMALS: return "write four digits at most after the point";
     case RS274_REFUSED_RANGE: return "keep every value, and every step of an expression, from -99999.9999 to 99999.9999";
     case RS274_REFUSED_DIVISOR: return "see that what stands after / or MOD cannot come to zero";
     case RS274_REFUSED_PARAMETER: return "use parameters 1 to 4999";

@@ -37,7 +37,7 @@ extern "C" {
 
 /*
  * Looks at a line as it was typed, without its end marker, for length and form only. The values in it
- * are not judged: the control may still refuse a line of right form, with a number from 4 up.
+ * are not judged: the control may still refuse a line of right form, with a number from 5 up.
  *
  * `line` points to `length` bytes that can be read, and is not null, not even for an empty line. They may
  * be any bytes. They are not changed, and nothing of them is kept.

@@ -34,7 +34,7 @@ struct Refused {
 };
 
 const Refused refused[] = {
-    {RS274_REFUSED_FORM, "X[1"},          {RS274_REFUSED_DECIMALS, "X1.23456"}, {RS274_REFUSED_RANGE, "X100000"},
+    {RS274_REFUSED_FORM, "X[1"},          {RS274_REFUSED_RANGE, "X99999.99995"}, {RS274_REFUSED_RANGE, "X100000"},
     {RS274_REFUSED_DIVISOR, "X[1/0]"},    {RS274_REFUSED_PARAMETER, "#5000=1"}, {RS274_REFUSED_CODE, "G59.4"},
     {RS274_REFUSED_TWICE, "G1 G0 X1"},    {RS274_REFUSED_WORDS, "G4"},          {RS274_REFUSED_WORD_VALUE, "G4 P-1"},
     {RS274_REFUSED_MOVE, "X1"},           {RS274_REFUSED_REACH, "G0 X10000.0001"},
@@ -61,7 +61,7 @@ void refusals() {
 void texts() {
     for (uint32_t a = 0; a <= RS274_SKIPPED; a++) {
         bool carried = a <= RS274_REFUSED_ROOM || a == RS274_SKIPPED;
-        bool remedied = RS274_REFUSED_OUT_OF_ORDER <= a && a <= RS274_REFUSED_ROOM;
+        bool remedied = RS274_REFUSED_OUT_OF_ORDER <= a && a <= RS274_REFUSED_ROOM && a != RS274_REFUSED_DECIMALS;
         hold("why", strcmp(rs274_why(a), rs274_why(99)) != 0, carried);
         hold("remedy", strcmp(rs274_remedy(a), rs274_remedy(99)) != 0, remedied);
         for (uint32_t b = 0; carried && b < a; b++) hold("two texts", strcmp(rs274_why(a), rs274_why(b)) != 0, true);
@@ -91,7 +91,7 @@ const Set sets[] = {
     {"G2 X1 I0.5", RS274_MOTION, RS274_MODE_G2}, {"G3 X0 I-0.5", RS274_MOTION, RS274_MODE_G3},
     {"G80", RS274_MOTION, RS274_MODE_G80},    {"G10 L2 P9 Z3", RS274_ORIGINS + 3 * 8 + 2, 3 * RS274_MILLIMETRE},
     {"G92 Z1", RS274_OFFSET + 2, -2 * RS274_MILLIMETRE}, {"S7", RS274_SPEED, 7 * RS274_ONE},
-    {"T9", RS274_TOOL, 9},                    {"M3", RS274_SPINDLE, RS274_SPINDLE_CLOCKWISE},
+    {"S1.23456", RS274_SPEED, 12346},         {"T9", RS274_TOOL, 9},                    {"M3", RS274_SPINDLE, RS274_SPINDLE_CLOCKWISE},
     {"M4", RS274_SPINDLE, RS274_SPINDLE_COUNTERCLOCKWISE}, {"M5", RS274_SPINDLE, RS274_SPINDLE_OFF},
     {"M7", RS274_COOLANT, RS274_COOLANT_MIST}, {"M8", RS274_COOLANT, RS274_COOLANT_MIST + RS274_COOLANT_FLOOD},
     {"M9", RS274_COOLANT, RS274_COOLANT_OFF}, {"G0 G53 X10000", RS274_POSITION, RS274_REACH},

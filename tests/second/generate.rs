@@ -410,7 +410,7 @@ fn settings(dice: &mut Dice, draft: &mut Draft) {
     }
 }
 
-/// Words with values of any make, where each of numbers 4 to 7 may be met.
+/// Words with values of any make, where each of numbers 5 to 7 may be met.
 fn free_values(dice: &mut Dice, draft: &mut Draft) {
     draft.changes.extend((1..=12).map(|number| (number, dice.between(1, 12) * 10_000)));
     let other = if dice.one_in(3) { dice.pick(&EDGE_VALUES) } else { 5_000 };
@@ -487,7 +487,7 @@ fn disturb(dice: &mut Dice, draft: &mut Draft) {
     }
 }
 
-/// An item whose value stops the line, by one of the numbers 4 to 7.
+/// An item whose value stops the line, by one of the numbers 5 to 7.
 fn stopped_item(dice: &mut Dice) -> Vec<u8> {
     let values = [
         &b"[1/0]"[..],
@@ -498,7 +498,8 @@ fn stopped_item(dice: &mut Dice) -> Vec<u8> {
         b"[99999+1]",
         b"[-400*400]",
         b"FUP[99999.5]",
-        b"[1/0.00001]",
+        b"[1/0.00004]",
+        b"99999.99995",
         b"#5000",
     ];
     let mut item = if dice.one_in(2) { b"#9=".to_vec() } else { vec![dice.pick(LETTERS)] };
@@ -535,7 +536,6 @@ fn draft(dice: &mut Dice, record: Record) -> Draft {
 
 /// A number for a value, in one of the many ways to write it.
 fn number_text(dice: &mut Dice, value: i64) -> Vec<u8> {
-    let (whole, decimals) = (value.unsigned_abs() / 10_000, value.unsigned_abs() % 10_000);
     let mut text = String::new();
     if value < 0 || (value == 0 && dice.one_in(20)) {
         text.push('-');
@@ -545,6 +545,10 @@ fn number_text(dice: &mut Dice, value: i64) -> Vec<u8> {
     if dice.one_in(12) {
         text.push_str("000");
     }
+    if dice.one_in(if value.abs() >= VALUE_LIMIT { 3 } else { 25 }) {
+        return (text + &fine_text(dice, value.unsigned_abs())).into_bytes();
+    }
+    let (whole, decimals) = (value.unsigned_abs() / 10_000, value.unsigned_abs() % 10_000);
     if whole != 0 || decimals == 0 || dice.one_in(2) {
         text.push_str(&whole.to_string());
     }
@@ -552,13 +556,29 @@ fn number_text(dice: &mut Dice, value: i64) -> Vec<u8> {
     if !dice.one_in(6) {
         after = after.trim_end_matches('0').to_string();
     }
-    if dice.one_in(if value.abs() > VALUE_LIMIT { 6 } else { 250 }) {
-        after = format!("{decimals:04}{}", dice.pick(&["0", "00", "1", "9"]));
-    }
     if !after.is_empty() || dice.one_in(8) {
         text.push('.');
     }
     (text + &after).into_bytes()
+}
+
+/// A number of five to sixty decimals that goes to this size: from at or just above the half below it to just
+/// below the half above it.
+fn fine_text(dice: &mut Dice, size: u64) -> String {
+    let many = dice.pick(&[0, 0, 1, 1, 2, 5, 6, 15, 40, 54]);
+    let any: String = (0..many).map(|_| char::from(dice.pick(b"0123456789"))).collect();
+    let (under, fifth) = if size == 0 || dice.one_in(2) {
+        (size, dice.pick(&["0", "1", "3", "4", "4", "4"]))
+    } else {
+        (size - 1, dice.pick(&["5", "5", "5", "6", "9"]))
+    };
+    let later = match dice.below(4) {
+        0 => "0".repeat(many),
+        1 => "9".repeat(many),
+        2 if many > 0 => "0".repeat(many - 1) + "1",
+        _ => any,
+    };
+    format!("{}.{:04}{fifth}{later}", under / 10_000, under % 10_000)
 }
 
 /// A text whose value is the one wanted, given the changes it makes to the table.

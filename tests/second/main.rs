@@ -234,9 +234,12 @@ fn tally(input: impl BufRead, out: &mut impl Write) -> io::Result<bool> {
     writeln!(out, "numbers {}", numbers.join(" "))?;
     writeln!(out, "kinds {}", kinds.join(" "))?;
     let often = |times: &u64| *times >= LEAST;
-    let seen = by_number[..=15].iter().all(often) && often(&by_number[100]) && by_kind[1..].iter().all(often);
+    // "4 is kept in the list and shown never to occur".
+    let given = by_number[..=15].iter().enumerate().filter(|&(number, _)| number != 4);
+    let seen = given.map(|(_, times)| times).all(often) && often(&by_number[100]) && by_kind[1..].iter().all(often);
+    let seen = seen && by_number[4] == 0;
     if !seen || unread > 0 {
-        writeln!(out, "each must occur at least {LEAST} times; {unread} answers cannot be read")?;
+        writeln!(out, "each but 4 must occur at least {LEAST} times, 4 never; {unread} answers cannot be read")?;
     }
     Ok(seen && unread == 0)
 }

@@ -200,12 +200,8 @@ const FUNCTIONS: [(&[u8], Function); 4] =
 /// One place of a derivation. Parts are named by where they stand in the derivation's list, and
 /// always stand earlier in it: the list is the tree in working order.
 enum Node {
-    /// A number: its size in ten-thousandths (held at the first one out of range) and how many
-    /// digits stand after its point.
-    Written {
-        value: i64,
-        decimals: usize,
-    },
+    /// A number: its value in ten-thousandths, its size held at the first one out of range.
+    Written(i64),
     /// The value after `#`, judged as a parameter number.
     Judged(usize),
     /// The table's entry under a judged number.
@@ -364,8 +360,7 @@ impl Reader {
             return None;
         }
         let size = ten_thousandths(&whole, &decimals);
-        let value = if negative { -size } else { size };
-        Some(self.note(Node::Written { value, decimals: decimals.len() }))
+        Some(self.note(Node::Written(if negative { -size } else { size })))
     }
 
     fn digits(&mut self) -> Vec<u8> {
@@ -406,10 +401,14 @@ fn rank(operator: Operator) -> u8 {
     }
 }
 
-/// The size of a number from its digits, held at the first size out of range.
+/// The size of a number from its digits, held at the first size out of range: "it is taken to the nearest
+/// ten-thousandth, halves away from zero, from all its digits at once" (request 4 of document 02).
 fn ten_thousandths(whole: &[u8], decimals: &[u8]) -> i64 {
     let four = decimals.iter().chain(repeat(&b'0')).take(4);
-    whole.iter().chain(four).fold(0, |size, digit| (size * 10 + i64::from(digit - b'0')).min(VALUE_LIMIT + 1))
+    let cut = whole.iter().chain(four).fold(0, |size, digit| (size * 10 + i64::from(digit - b'0')).min(VALUE_LIMIT + 1));
+    // What is left is half a ten-thousandth or more if it comes after 5 in the order of texts, or is 5.
+    let half = decimals.get(4..).is_some_and(|left| left >= &b"5"[..]);
+    (cut + i64::from(half)).min(VALUE_LIMIT + 1)
 }
 
 /// "gets one number: 0, 2 or 3, for length and form only."
@@ -425,7 +424,7 @@ pub fn form(line: &[u8]) -> u8 {
 
 // ---------------------------------------------------------------- Arithmetic
 
-/// What reading a line gives: no derivation, the first of numbers 4 to 7, or "the tree's words and
+/// What reading a line gives: no derivation, the first of numbers 5 to 7, or "the tree's words and
 /// settings in order, with their values".
 pub enum Reading {
     WrongForm,
@@ -452,12 +451,13 @@ pub fn read(line: &[u8], table: &[i64]) -> Reading {
 }
 
 /// "All values on a line are worked out left to right from the table as it was at entry"; "Among 4
-/// to 7 the first met in working order decides". A judged node's value is the parameter number.
+/// to 7 the first met in working order decides", of which 4 never comes. A judged node's value is the
+/// parameter number.
 fn work_out(nodes: &[Node], table: &[i64]) -> Result<Vec<i64>, u8> {
     let mut values = Vec::with_capacity(nodes.len());
     for node in nodes {
         let value = match *node {
-            Node::Written { value, decimals } => written(value, decimals)?,
+            Node::Written(value) => in_range(value)?,
             Node::Judged(after_hash) => parameter_number(values[after_hash])?,
             Node::Entry(number) => entry(values[number], table)?,
             Node::Applied(function, inner) => in_range(apply(function, values[inner]))?,
@@ -474,16 +474,6 @@ fn in_range(value: i64) -> Result<i64, u8> {
         Ok(value)
     } else {
         Err(5)
-    }
-}
-
-/// Number 4: "a number has more than four digits after its point, zeros too"; "in one number 4
-/// before 5".
-fn written(value: i64, decimals: usize) -> Result<i64, u8> {
-    if decimals > 4 {
-        Err(4)
-    } else {
-        in_range(value)
     }
 }
 

@@ -14,8 +14,8 @@ sys.path.insert(0, str(ROOT / 'tests'))
 import stream  # noqa: E402
 
 PROGRAMS, SEED = 100, 274
-DECIMALS = ('number 4: a number has more than four digits after its point, zeros counted;'
-            ' write four digits at most after the point')
+RANGE = ('number 5: a value written, worked out or read from a parameter is beyond 99999.9999;'
+         ' keep every value, and every step of an expression, from -99999.9999 to 99999.9999')
 FORM = ('number 3: the line is of wrong form; look for a letter that begins no word, a bracket or comment left open,'
         ' a sign before a bracket or a parameter, or a line end handed over with the line')
 LENGTH = 'number 2: the line has more than 256 bytes; write it as two lines'
@@ -28,8 +28,8 @@ CASES = [
     (b'', '', None, None),
     (b'\n\n', '', None, None),
     # a refusal in the middle: no rapid through the work follows it
-    (b'F100 G1 Z-3\nG1 X50\nG0 Z5.12345\nG0 X0 Y0\n', Z, 3, DECIMALS),
-    (b'F100 G1 Z-3\r\nG1 X50\r\nG0 Z5.12345\r\nG0 X0 Y0\r\n', Z, 3, DECIMALS),
+    (b'F100 G1 Z-3\nG1 X50\nG0 Z100000\nG0 X0 Y0\n', Z, 3, RANGE),
+    (b'F100 G1 Z-3\r\nG1 X50\r\nG0 Z100000\r\nG0 X0 Y0\r\n', Z, 3, RANGE),
     (b'G59.4\nM6\n', '', 1, CODE),
     (b'\n(a comment)\nM6\nG59.4\nM6', CHANGE, 4, CODE),
     # the values of a refused line are not kept, nor those of a line after it

@@ -4,8 +4,8 @@
 use mathlib.Core.Path.{_≡_, refl}
 use mathlib.Core.Bool.{Bool, true, false, cond}
 use mathlib.Core.List.{List}
-use Prim.Native.Nat.{ℕ, _-_, _*_, _^_}
-use lib.Dec.{eqb, ltb}
+use Prim.Native.Nat.{ℕ}
+use lib.Dec.{eqb}
 use lib.IntN.{ℤ, natAbs}
 use borrow.Author.Tests.{leb-true}
 use Rattle.grammar.specs.declared.Op.{Op}
@@ -13,7 +13,7 @@ use Rattle.grammar.specs.declared.Op.the-variants.{Add, Sub, Mul, Div, Mod, And
 use Rattle.grammar.specs.declared.Func.{Func}
 use Rattle.grammar.specs.declared.Func.the-variants.{Abs, Fix, Fup, Round}
 use Rattle.grammar.specs.Grammar.{Number, num}
-use Rattle.rules.specs.Numbers.{signed, inRange}
+use Rattle.rules.specs.Numbers.{inRange}
 use Rattle.rules.specs.Meaning.{ranged, written, numberOf, divided, operation, function, parameterOf, entry, then, arithmetic}
 use Rattle.rules.specs.declared.Value.{Value}
 use Rattle.rules.specs.declared.Worked.{Worked}
@@ -69,11 +69,7 @@ entry-kept table Outside = tt
 
 pub written-kept : (s : Bool) (digits decimals : ℕ) → Kept (written s digits decimals)
 unfolding written
-written-kept s digits decimals = go (ltb 4 decimals)
-  where
-    go : (c : Bool) → Kept (cond c (Bad 4) (ranged (signed s (digits * 10 ^ (4 - decimals)))))
-    go true = tt
-    go false = ranged-kept _
+written-kept s digits decimals = ranged-kept _
 
 pub number-kept : (n : Number) → Kept (numberOf n)
 unfolding numberOf

@@ -80,7 +80,7 @@ stop-none end h = refl
 stop-none (stopped n) h = absurd (let z : _≡_ {A = ℕ} 0 1 = cc in omega arith)
 stop-none (took e t) h = stop-none t h
 
-stop-sound : (e : Took Entry) → SoundTook e → (k : ℕ) → stopOf e ≡ some k → (4 ≤ k) × (k ≤ 7)
+stop-sound : (e : Took Entry) → SoundTook e → (k : ℕ) → stopOf e ≡ some k → (5 ≤ k) × (k ≤ 7)
 stop-sound end s k h = absurd (let z : _≡_ {A = ℕ} 0 1 = cc in omega arith)
 stop-sound (stopped n) s k h = let e : n ≡ k = cc in rw e at s
 stop-sound (took (wordIs b v) t) s k h = stop-sound t (s .1) k h
@@ -94,14 +94,14 @@ finished-by n e b r table out h = rw (ne-eqb n 100 h) (go (eqb n 0))
     go true = refl
     go false = refl
 
--- the numbers 4 to 7
-stopped-by : (k : ℕ) → 4 ≤ k → k ≤ 7 → (cs : List Case) (e : Took Entry) (b : Block) (r : Record) (table out : List ℤ) →
+-- the numbers 5 to 7
+stopped-by : (k : ℕ) → 5 ≤ k → k ≤ 7 → (cs : List Case) (e : Took Entry) (b : Block) (r : Record) (table out : List ℤ) →
     byNumber (first ((4 when eqb k 4) ∷ (5 when eqb k 5) ∷ (6 when eqb k 6) ∷ (7 when eqb k 7) ∷ cs)) e b r table out ≡ leaving (Refused k) r table out
 stopped-by zero l h cs e b r table out = absurd (omega arith)
 stopped-by (suc zero) l h cs e b r table out = absurd (omega arith)
 stopped-by (suc (suc zero)) l h cs e b r table out = absurd (omega arith)
 stopped-by (suc (suc (suc zero))) l h cs e b r table out = absurd (omega arith)
-stopped-by (suc (suc (suc (suc zero)))) l h cs e b r table out = refl
+stopped-by (suc (suc (suc (suc zero)))) l h cs e b r table out = absurd (omega arith)
 stopped-by (suc (suc (suc (suc (suc zero))))) l h cs e b r table out = refl
 stopped-by (suc (suc (suc (suc (suc (suc zero)))))) l h cs e b r table out = refl
 stopped-by (suc (suc (suc (suc (suc (suc (suc zero))))))) l h cs e b r table out = refl

@@ -1,4 +1,4 @@
--- Demand 3, of what `read` leaves: for a derived line the tree's words and settings, in order and with their values, up to the first of numbers 4 to 7;
+-- Demand 3, of what `read` leaves: for a derived line the tree's words and settings, in order and with their values, up to the first of numbers 5 to 7;
 -- and a wrong form exactly where there is no derivation. Every law here follows from the contract alone.
 -- Assumes nothing.
 use mathlib.Core.Path.{_≡_, refl, sym, ap, _∙_}
@@ -121,12 +121,12 @@ module _ (l : List ℕ) (t : List ℤ) (old : Spaces) (r : Reading) (sp : Spaces
           amounts = at-front (λ (x : Setting). x .value) (settings (lineEntries (arithmetic t) u)) (old .amounts) (omega (arith, k, m));
         })
 
-    -- a line that is read is stopped by none of numbers 4 to 7, and the counts are those of its words and settings
+    -- a line that is read is stopped by none of numbers 5 to 7, and the counts are those of its words and settings
     pub tree-read : (w n : ℕ) → r ≡ Whole w n →
         (stoppedBy (lineEntries (arithmetic t) u) ≡ 0) × (length (words (lineEntries (arithmetic t) u)) ≡ w) × (length (settings (lineEntries (arithmetic t) u)) ≡ n)
     tree-read w n e = whole-is (lineEntries (arithmetic t) u) _ _ (sym tree-answer ∙ e)
 
-    -- and a line that is stopped is stopped by the number that the rules name, one of 4 to 7
+    -- and a line that is stopped is stopped by the number that the rules name, one of 5 to 7
     pub tree-stopped : (k : ℕ) → r ≡ Stopped k → (stoppedBy (lineEntries (arithmetic t) u) ≡ k) × Refusal k
     tree-stopped k e = stopped-is (lineEntries (arithmetic t) u) _ _ (sym tree-answer ∙ e) (line-stops t u)
 

@@ -1,5 +1,6 @@
 pub mod Clash
 pub mod Spellings
+pub mod Decimals
 pub mod Numerals
 pub mod Evaluating
 pub mod Itemising

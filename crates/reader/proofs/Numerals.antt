@@ -1,17 +1,17 @@
 -- Numbers: the sign, the digits held at a bound past every range, and what they make.
 -- Assumes nothing.
 use mathlib.Core.Path.{_≡_, refl, sym, ap, _∙_}
-use mathlib.Core.Bool.{Bool, true, false, cond, _||_}
+use mathlib.Core.Bool.{Bool, true, false, _||_}
 use mathlib.Core.List.{List, [], _∷_, _++_, append-nil}
 use Prim.Native.Nat.{ℕ, _+_, _-_, _*_, _^_, _≤_, _<_, min}
 use native.Mathlib.Omega.{arith}
 use native.Mathlib.Decide.{decLe, ℕ-discrete}
 use native.Mathlib.Nat.{lt-of-not-le, le-mul-of-pos-right, one-le-pow}
 use borrow.Author.Tests.{eq-eqb, ne-eqb, le-leb, lt-leb}
-use lib.Dec.{eqb, ltb, lit<}
+use lib.Dec.{eqb, lit<}
 use lib.IntN.{pos, negℤ, natAbs}
-use lib.ListN.{length, drop, getD, length-drop, length-append, drop-of-length-le}
-use lib.Seq.{drop-drop, drop-at}
+use lib.ListN.{length, take, drop, getD, length-drop, length-append, drop-of-length-le}
+use lib.Seq.{drop-drop, drop-at, length-take-le, getD-take, take-length}
 use Rattle.laws.proofs.Ints.{abs-neg}
 use Rattle.grammar.specs.Grammar.{Sign, unsigned, plus, minus, digit, Fraction, whole, point, fractionDigits, Number, num}
 use Rattle.grammar.proofs.Read.{Read, got, bind, takeWhile, dropWhile, readFraction, finish, readNumber, numeric}
@@ -21,11 +21,15 @@ use Rattle.rules.specs.Numbers.{signed}
 use Rattle.rules.specs.Meaning.{ranged, decimal, negative, written, numberOf}
 use Rattle.rules.specs.declared.Worked.{Worked}
 use Rattle.rules.specs.declared.Worked.the-variants.{Bad}
+use Rattle.rules.proofs.Fifth.{few-decimals}
+use Rattle.value.specs.Guarded.{nearestSize}
+use Rattle.value.proofs.Written.{five-decimals}
 use Rattle.reader.specs.Places.{valued, SignAt, DigitsAt, withDigit, pointed}
 use Rattle.reader.specs.declared.values.Valued.the-variants.{To as Came, Wrong}
 use Rattle.reader.specs.declared.numbers.Signed.{Signed}
 use Rattle.reader.specs.declared.numbers.Digits.{Digits}
 use Rattle.reader.proofs.Spellings.{back, first-of}
+use Rattle.reader.proofs.Decimals.{first-five, take-on, decimal-append}
 
 -- ---- the sign
 module _ (s : List ℕ) (at : ℕ) (l : at ≤ length s) where
@@ -65,23 +69,19 @@ unfolding ranged
 ranged-out true n h = rw (lt-leb (natAbs (negℤ (pos n))) 999999999 (rw (abs-neg (pos n)) h))
 ranged-out false n h = rw (lt-leb n 999999999 h)
 
--- a number held past the range is as far out of it as the number
-held-written : (g : Bool) (m k : ℕ) → written g (min 10000000000 m) k ≡ written g m k
-unfolding written
-held-written g m k = elim (decLe m 10000000000) [
-  | yes h ↦ (let e : min 10000000000 m ≡ m = omega arith in rw e)
-  | no h ↦
-      (let j : 10000000000 < m = lt-of-not-le h in
-      let p : 0 < 10 ^ (4 - k) = one-le-pow (4 - k) 10 (lit< tt) in
-      let a : m ≤ m * 10 ^ (4 - k) = le-mul-of-pos-right m p in
-      let b : min 10000000000 m ≤ min 10000000000 m * 10 ^ (4 - k) = le-mul-of-pos-right (min 10000000000 m) p in
-      ap (λ (x : Worked). cond (ltb 4 k) (Bad 4) x) (ranged-out g (min 10000000000 m * 10 ^ (4 - k)) (omega arith) ∙ sym (ranged-out g (m * 10 ^ (4 - k)) (omega arith))))
+-- a number of ten thousand million or more is out of range with up to five decimals
+past-range : (g : Bool) (m k : ℕ) → k ≤ 5 → 10000000000 ≤ m → written g m k ≡ Bad 5
+past-range g m k h l = elim (decLe k 4) [
+  | yes f ↦ few-decimals g m k f ∙ ranged-out g (m * 10 ^ (4 - k)) (let a : m ≤ m * 10 ^ (4 - k) = le-mul-of-pos-right m (one-le-pow (4 - k) 10 (lit< tt)) in omega arith)
+  | no f ↦ (let e : k ≡ 5 = omega (arith, lt-of-not-le f) in rw e (five-decimals g m ∙ ranged-out g (nearestSize m 10) (omega arith)))
 ]
 
-decimal-append : (v : ℕ) (ds es : List ℕ) → decimal (decimal v ds) es ≡ decimal v (ds ++ es)
-unfolding decimal
-decimal-append v [] es = refl
-decimal-append v (d ∷ ds) es = decimal-append (v * 10 + (d - 48)) ds es
+-- a number held there is as far out of range as the number
+held-written : (g : Bool) (m k : ℕ) → k ≤ 5 → written g (min 10000000000 m) k ≡ written g m k
+held-written g m k l = elim (decLe m 10000000000) [
+  | yes h ↦ (let e : min 10000000000 m ≡ m = omega arith in rw e)
+  | no h ↦ (let j : 10000000000 < m = lt-of-not-le h in past-range g (min 10000000000 m) k l (omega arith) ∙ sym (past-range g m k l (omega arith)))
+]
 
 -- the digits from at on were passed up to i
 pub record Passed (s : List ℕ) (at v n i : ℕ) : Type 0 where
@@ -124,6 +124,30 @@ module _ (s : List ℕ) (at v : ℕ) where
             same = rw e (held (n * 10 + (getD s i 0 - 48)) (takeWhile digit (drop (i + 1) s)) ∙ sym (ap (λ (x : List ℕ). min 10000000000 (decimal n x)) d) ∙ q .same);
             past = omega (arith, q .past, ap length d);
           }
+
+-- ---- a part of the line that ends before its end
+pub part-none : (s : List ℕ) (end : ℕ) → end ≤ length s → (at v : ℕ) → at ≤ end → v ≤ 10000000000 → Passed (take end s) at v v at
+part-none s end l at v k h = none-yet (take end s) at v (rw (length-take-le end s l) k) h
+
+module _ (s : List ℕ) (end : ℕ) (l : end ≤ length s) (at v : ℕ) {n i : ℕ} (q : Passed (take end s) at v n i) where
+  in-part : i < end → i < length (take end s)
+  in-part h = rw (length-take-le end s l) h
+
+  pub part-past : end ≤ i → DigitsAt (take end s) at v (record { number = n; next = i })
+  part-past h = end-past (take end s) at v q (rw (length-take-le end s l) h)
+
+  pub part-low : i < end → getD s i 0 < 48 → DigitsAt (take end s) at v (record { number = n; next = i })
+  part-low h b = end-low (take end s) at v q (in-part h) (rw (getD-take end s i 0 h) b)
+
+  pub part-high : i < end → 48 ≤ getD s i 0 → 57 < getD s i 0 → DigitsAt (take end s) at v (record { number = n; next = i })
+  part-high h a b = end-high (take end s) at v q (in-part h) (rw (getD-take end s i 0 h) a) (rw (getD-take end s i 0 h) b)
+
+  pub part-more : i < end → 48 ≤ getD s i 0 → getD s i 0 ≤ 57 → {m : ℕ} → m ≡ withDigit n (getD s i 0) → Passed (take end s) at v m (i + 1)
+  part-more h a b e = one-more (take end s) at v q (in-part h) (rw (getD-take end s i 0 h) a) (rw (getD-take end s i 0 h) b) (rw (getD-take end s i 0 h) e)
+
+module _ (s : List ℕ) (at v : ℕ) {r : Digits} where
+  pub to-the-end : DigitsAt (take (length s) s) at v r → DigitsAt s at v r
+  to-the-end q = rw (take-length s) at q
 
 -- ---- a number made of its parts
 pub drop-digits : (s : List ℕ) (at : ℕ) → dropWhile digit (drop at s) ≡ drop (at + length (takeWhile digit (drop at s))) s
@@ -183,7 +207,7 @@ module _ (s : List ℕ) (at : ℕ) {g : Signed} {a : Digits} (p : SignAt s at g)
     pub whole-number : (a .next ≡ g .next → ⊥) → {v : Worked} → v ≡ written (g .negative) (a .number) 0 → Came v (a .next) ≡ valued (mapP numberOf (numberP s at))
     unfolding numberP ds numberOf
     whole-number e {v} w =
-        ap (λ (x : Worked). Came x (a .next)) (w ∙ rw (p .minus, q .writes) (held-written (negative (p .sign)) (decimal 0 ds) 0 ∙ rw (append-nil ds)))
+        ap (λ (x : Worked). Came x (a .next)) (w ∙ rw (p .minus, q .writes) (held-written (negative (p .sign)) (decimal 0 ds) 0 (omega arith) ∙ rw (append-nil ds)))
         ∙ sym (ap (λ (x : Read Number). valued (mapP numberOf (place s x))) plain ∙ made s (p .sign) ds whole (a .next) (on .1) (omega (arith, q .past, on)))
 
   module _ (n : pointed (drop (a .next) s) ≡ true) {b : Digits} (r : DigitsAt s (a .next + 1) (a .number) b) where
@@ -202,18 +226,35 @@ module _ (s : List ℕ) (at : ℕ) {g : Signed} {a : Digits} (p : SignAt s at g)
     point-alone e =
         sym (ap (λ (x : Read Number). valued (mapP numberOf (place s x))) dotted ∙ unmade s (p .sign) ds (point es) (b .next) (far .1) (omega (arith, q .past, r .past, on, far)))
 
-    worth : written (g .negative) (b .number) (b .next - (a .next + 1)) ≡ numberOf (num (p .sign) ds (point es))
-    unfolding numberOf ds es
-    worth =
-        let k : b .next - (a .next + 1) ≡ length es = omega (arith, r .past) in
-        rw (p .minus, k, r .writes, q .writes)
-        (rw (held (decimal 0 ds) es) (held-written (negative (p .sign)) (decimal (decimal 0 ds) es) (length es) ∙ rw (decimal-append 0 ds es)))
+    module _ (h : b .next ≡ g .next + 1 → ⊥) where
+      given : {v : Worked} → v ≡ numberOf (num (p .sign) ds (point es)) → Came v (b .next) ≡ valued (mapP numberOf (numberP s at))
+      unfolding numberP ds es
+      given {v} w =
+          ap (λ (x : Worked). Came x (b .next)) w
+          ∙ sym (ap (λ (x : Read Number). valued (mapP numberOf (place s x))) dotted ∙ made s (p .sign) ds (point es) (b .next) (far .1) (omega (arith, q .past, r .past, on, far)))
 
-    pub decimal-number : (b .next ≡ g .next + 1 → ⊥) → {v : Worked} → v ≡ written (g .negative) (b .number) (b .next - (a .next + 1)) → Came v (b .next) ≡ valued (mapP numberOf (numberP s at))
-    unfolding numberP ds es
-    decimal-number e {v} w =
-        ap (λ (x : Worked). Came x (b .next)) (w ∙ worth)
-        ∙ sym (ap (λ (x : Read Number). valued (mapP numberOf (place s x))) dotted ∙ made s (p .sign) ds (point es) (b .next) (far .1) (omega (arith, q .past, r .past, on, far)))
+      -- up to four decimals: all of them
+      pub decimal-number : b .next - (a .next + 1) ≤ 4 → {v : Worked} → v ≡ written (g .negative) (b .number) (b .next - (a .next + 1)) → Came v (b .next) ≡ valued (mapP numberOf (numberP s at))
+      unfolding numberOf ds es
+      decimal-number few w =
+          let k : b .next - (a .next + 1) ≡ length es = omega (arith, r .past) in
+          given
+          (w ∙ rw (p .minus, k, r .writes, q .writes)
+          (rw (held (decimal 0 ds) es) (held-written (negative (p .sign)) (decimal (decimal 0 ds) es) (length es) (omega arith) ∙ rw (decimal-append 0 ds es))))
+
+      -- more: the first five, after the digits before the point, read anew
+      pub fine-number : 4 < b .next - (a .next + 1) → {w f : Digits} → DigitsAt s (g .next) 0 w → DigitsAt (take (a .next + 1 + 5) s) (a .next + 1) (w .number) f → {v : Worked} → v ≡ written (g .negative) (f .number) 5 →
+          Came v (b .next) ≡ valued (mapP numberOf (numberP s at))
+      unfolding numberOf ds es
+      fine-number many {w} {f} u t e =
+          let five = takeWhile digit (take 5 (drop (a .next + 1) s)) in
+          let c : takeWhile digit (drop (a .next + 1) (take (a .next + 1 + 5) s)) ≡ five = ap (takeWhile digit) (take-on (a .next + 1) 5 s) in
+          given
+          (e ∙ rw (p .minus, t .writes, c, u .writes)
+          (rw (held (decimal 0 ds) five)
+          (held-written (negative (p .sign)) (decimal (decimal 0 ds) five) 5 (omega arith)
+          ∙ first-five (negative (p .sign)) (decimal 0 ds) (drop (a .next + 1) s) (omega (arith, r .past))
+          ∙ rw (decimal-append 0 ds es))))
 
 -- ---- bytes
 pub eqb-swap : (a b : ℕ) → eqb a b ≡ eqb b a

@@ -1,4 +1,4 @@
--- What stops the reading of a line is one of numbers 4 to 7.
+-- What stops the reading of a line is one of numbers 5 to 7.
 -- Assumes nothing.
 use mathlib.Core.List.{List}
 use Prim.Native.Nat.{ℕ, _≤_}
@@ -8,9 +8,9 @@ use Rattle.grammar.specs.Working.{Took, end, stopped, took, entries, lineEntrie
 use Rattle.rules.specs.Meaning.{Entry, wordIs, settingIs, arithmetic}
 use Rattle.rules.proofs.Sound.{SoundTook, entries-sound}
 
--- one of numbers 4 to 7
+-- one of numbers 5 to 7
 pub record Refusal (n : ℕ) : Type 0 where
-  pub low : 4 ≤ n
+  pub low : 5 ≤ n
   pub high : n ≤ 7
 
 -- a reading that is stopped by one of them, if it is stopped

@@ -16,7 +16,7 @@ use rules::Value;
 use rules::Worked;
 
 // One item, each with the place past it: a word's letter and value; a setting's parameter number and
-// value; a comment; or an item of right form that is refused with a number, 4 to 7. Or the place where
+// value; a comment; or an item of right form that is refused with a number, 5 to 7. Or the place where
 // the form is wrong; or the line's end.
 pub(crate) enum Item {
     Word(u8, Value, usize),

@@ -22,7 +22,7 @@ use text::prepare;
 pub enum Reading {
     // It is read: so many words and so many settings are stored.
     Read(usize, usize),
-    // Its form is right, but it is refused with this number, 4 to 7: the first in working order.
+    // Its form is right, but it is refused with this number, 5 to 7: the first in working order.
     Stopped(u8),
     // It has no derivation. The place, among the prepared bytes, of the first at which it cannot go on;
     // the lent spaces hold zeros.

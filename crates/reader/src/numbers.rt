@@ -1,7 +1,7 @@
 // Numbers: a sign, digits, and a point among them.
 ghost use mathlib.Core.Path.{_≡_};
 ghost use Prim.Native.Nat.{_≤_};
-ghost use lib.ListN.{length, drop};
+ghost use lib.ListN.{length, take, drop};
 ghost use Rattle.grammar.proofs.Read.{opensNumber, numeric};
 ghost use Rattle.grammar.proofs.Place.{mapP, numberP};
 ghost use Rattle.rules.specs.Meaning.{numberOf};
@@ -82,15 +82,16 @@ fn with_digit(number: u64, digit: u8) -> u64
     if n <= 10000000000 { n } else { 10000000000 }
 }
 
-// The digits from here on, written after those of a number.
-pub(crate) fn digits_from(text: &[u8], at: usize, number: u64) -> Digits
-    requires { ⌜ at ≤ length (now text) ⌝ }
+// The digits from here on and before `end`, written after those of a number.
+fn digits_before(text: &[u8], at: usize, end: usize, number: u64) -> Digits
+    requires { ⌜ at ≤ end ⌝ }
+    requires { ⌜ end ≤ length (now text) ⌝ }
     requires { ⌜ number ≤ 10000000000 ⌝ }
-    ensures { λ r. ⌜ DigitsAt (now (text .entry)) at number r ⌝ }
+    ensures { λ r. ⌜ DigitsAt (take end (now (text .entry))) at number r ⌝ }
 {
     let mut n = number;
     let mut i = at;
-    while i < text.len() {
+    while i < end {
         let b = text[i];
         if b < b'0' {
             return Digits { number: n, next: i };
@@ -102,6 +103,15 @@ pub(crate) fn digits_from(text: &[u8], at: usize, number: u64) -> Digits
         i += 1;
     }
     Digits { number: n, next: i }
+}
+
+// The digits from here on, written after those of a number.
+pub(crate) fn digits_from(text: &[u8], at: usize, number: u64) -> Digits
+    requires { ⌜ at ≤ length (now text) ⌝ }
+    requires { ⌜ number ≤ 10000000000 ⌝ }
+    ensures { λ r. ⌜ DigitsAt (now (text .entry)) at number r ⌝ }
+{
+    digits_before(text, at, text.len(), number)
 }
 
 fn has_point(text: &[u8], at: usize) -> bool
@@ -124,6 +134,13 @@ pub(crate) fn number_at(text: &[u8], at: usize) -> Valued
         let all = digits_from(text, decimals, whole.number);
         if all.next == sign.next + 1 {
             return Valued::Wrong(all.next);
+        }
+        if 4 < all.next - decimals {
+            // The first five tell the value. So many are seldom, so their number alone is read anew,
+            // and nothing is kept for it.
+            let again = digits_from(text, sign.next, 0);
+            let five = digits_before(text, decimals, decimals + 5, again.number);
+            return Valued::To(value::number(sign.negative, five.number, 5), all.next);
         }
         return Valued::To(
             value::number(sign.negative, all.number, all.next - decimals),

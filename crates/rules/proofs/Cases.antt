@@ -158,16 +158,20 @@ valueRows =
     ∷ ("FIX[2.8]" is pos 20000) ∷ ("FIX[-3]" is neg 30000) ∷ ("FUP[2.8]" is pos 30000) ∷ ("FUP[-3]" is neg 30000) ∷ ("FUP[0.0001]" is pos 10000)
     ∷ ("FIX[-0.0001]" is neg 10000) ∷ ("ROUND[2.5]" is pos 30000) ∷ ("ROUND[2.4999]" is pos 20000) ∷ ("ROUND[-2.4999]" is neg 20000)
     ∷ ("ROUND[-0.5]" is neg 10000) ∷ ("-99999.9999" is neg 999999999) ∷ ("1." is pos 10000) ∷ ("+.0001" is pos 1) ∷ ("-0" is pos 0)
-    ∷ ("0000000001" is pos 10000) ∷ ("[1--2]" is pos 30000) ∷ [])
+    ∷ ("0000000001" is pos 10000) ∷ ("[1--2]" is pos 30000)
+    -- any decimals, to the nearest ten-thousandth, halves away from zero, from all digits at once, the range after rounding
+    ∷ ("1.00000" is pos 10000) ∷ ("1.234567" is pos 12346) ∷ ("1.23454999" is pos 12345) ∷ ("1.23455" is pos 12346) ∷ ("-1.23455" is neg 12346)
+    ∷ ("-0.00005" is neg 1) ∷ ("-0.00004999" is pos 0) ∷ ("0.000149999" is pos 1) ∷ ("99999.99994999" is pos 999999999) ∷ ("-99999.99994" is neg 999999999)
+    ∷ [])
     -- the first met in working order decides
-    ++ refusing fresh 4 ("X1.00000" ∷ "X100000.00000" ∷ "X1.23456 Y100000" ∷ "X1.23456 Y[1/0]" ∷ "#1=1.00000" ∷ [])
     ++ refusing fresh 5 (
-    "X100000 Y1.23456" ∷ "X-100000" ∷ "#1=[99999+1-1/0]" ∷ "#1=[99999+99999-99999]" ∷ "#1=[99999*2]" ∷ "#1=[1000/0.001]" ∷ "#100000=1"
+    "X100000 Y1.23456" ∷ "X1.23456 Y100000" ∷ "X100000.00000" ∷ "#1=99999.99995" ∷ "#1=-99999.999950" ∷ "X-100000" ∷ "#1=[99999+1-1/0]" ∷ "#1=[99999+99999-99999]" ∷ "#1=[99999*2]" ∷ "#1=[1000/0.001]" ∷ "#100000=1"
     ∷ "#1=FUP[99999.0001]" ∷ "#1=FIX[-99999.5]" ∷ "#1=ROUND[99999.5]" ∷ "G100000" ∷ [])
-    ++ refusing fresh 6 ("#1=[99999+1*1/0]" ∷ "#1=[0 AND 1/0]" ∷ "#1=[1 MOD 0]" ∷ "#1=[1/[0.0001*0.4]]" ∷ "#[1/0]=1" ∷ "#1=[1/-0]" ∷ "X[1/0] Y1.23456" ∷ "#1=[1/0] #0=1" ∷ [])
-    ++ refusing fresh 7 ("#-1=1" ∷ "#0.0001=1" ∷ "#4999.9999=1" ∷ "#1.5=1" ∷ "X#0" ∷ "X#5000" ∷ "#0=[1/0]" ∷ "#0=1.23456" ∷ "##1=1" ∷ [])
+    ++ refusing fresh 6 ("#1=[99999+1*1/0]" ∷ "#1=[0 AND 1/0]" ∷ "#1=[1 MOD 0]" ∷ "#1=[1/[0.0001*0.4]]" ∷ "#[1/0]=1" ∷ "#1=[1/-0]" ∷ "X[1/0] Y1.23456" ∷ "X1.23456 Y[1/0]" ∷ "#1=[1/0] #0=1" ∷ [])
+    ++ refusing fresh 7 ("#-1=1" ∷ "#0.0001=1" ∷ "#4999.9999=1" ∷ "#1.5=1" ∷ "X#0" ∷ "X#5000" ∷ "#0=[1/0]" ∷ "#0=1.23456" ∷ "#1.00015=1" ∷ "##1=1" ∷ [])
     -- parameter numbers, and the table as it was at entry
     ++ row "#0.9999=1" fresh zeros room 0 0 fresh (set zeros 1 (pos 10000)) room
+    ∷ row "#1.00014=1" fresh zeros room 0 0 fresh (set zeros 1 (pos 10000)) room
     ∷ row "#4999.0001=1" fresh zeros room 0 0 fresh (set zeros 4999 (pos 10000)) room
     ∷ row "#1=##2" fresh (set (set zeros 2 (pos 30000)) 3 (pos 50000)) room 0 0 fresh (set (set (set zeros 1 (pos 50000)) 2 (pos 30000)) 3 (pos 50000)) room
     ∷ row "##1=5" fresh (set zeros 1 (pos 20000)) room 0 0 fresh (set (set zeros 1 (pos 20000)) 2 (pos 50000)) room

@@ -6,6 +6,8 @@ pub mod Answers
 pub mod Demands
 pub mod Told
 pub mod Carried
+pub mod Never
+pub mod Fifth
 pub mod Index
 pub mod InOrder
 pub mod InRange

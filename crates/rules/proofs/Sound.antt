@@ -1,12 +1,12 @@
--- What is worked out is a value in range or one of the numbers 4 to 7, whatever the table holds: so the words of a reading are in range, and a reading that
+-- What is worked out is a value in range or one of the numbers 5 to 7, whatever the table holds: so the words of a reading are in range, and a reading that
 -- stops is stopped by one of these numbers.
 -- Assumes nothing.
 use mathlib.Core.Path.{_≡_, refl}
 use mathlib.Core.Bool.{Bool, true, false, cond}
 use mathlib.Core.List.{List, [], _∷_}
-use Prim.Native.Nat.{ℕ, _-_, _*_, _^_, _≤_}
+use Prim.Native.Nat.{ℕ, _≤_}
 use native.Mathlib.Omega.{arith}
-use lib.Dec.{eqb, ltb}
+use lib.Dec.{eqb}
 use lib.IntN.{ℤ, natAbs}
 use Rattle.grammar.specs.Grammar.{Number, num, Value, number, parameter, applied, grouped, Expr, expr, Rest, done, more, Item, word, setting, comment}
 use Rattle.grammar.specs.Working.{Pair, pair, Took, end, stopped, took, after, terms, total, inOrder, value, expression, pairs, entries, high}
@@ -14,17 +14,17 @@ use Rattle.grammar.specs.declared.Op.{Op}
 use Rattle.grammar.specs.declared.Op.the-variants.{Add, Sub, Mul, Div, Mod, And, Or, Xor}
 use Rattle.grammar.specs.declared.Func.{Func}
 use Rattle.grammar.specs.declared.Func.the-variants.{Abs, Fix, Fup, Round}
-use Rattle.rules.specs.Numbers.{inRange, signed}
+use Rattle.rules.specs.Numbers.{inRange}
 use Rattle.rules.specs.Meaning.{ranged, written, numberOf, divided, operation, function, parameterOf, entry, then, Entry, wordIs, settingIs, wordOf, settingOf, settingAt, arithmetic}
 use Rattle.rules.specs.declared.Worked.{Worked}
 use Rattle.rules.specs.declared.Worked.the-variants.{Good, Bad}
 use Rattle.rules.specs.declared.Parameter.{Parameter}
 use Rattle.rules.specs.declared.Parameter.the-variants.{Number as Numbered, Outside}
 
--- ---- what is worked out: a value in range, or one of the numbers 4 to 7
+-- ---- what is worked out: a value in range, or one of the numbers 5 to 7
 abbrev pub Sound : Worked → Type 0
 Sound (Good v) = inRange (v .0) ≡ true
-Sound (Bad n) = (4 ≤ n) × (n ≤ 7)
+Sound (Bad n) = (5 ≤ n) × (n ≤ 7)
 
 ranged-sound : (z : ℤ) → Sound (ranged z)
 unfolding ranged
@@ -34,13 +34,13 @@ ranged-sound z = go (inRange z) refl
     go true e = e
     go false e = (omega arith, omega arith)
 
-if-sound : (c : Bool) (n : ℕ) (w : Worked) → 4 ≤ n → n ≤ 7 → Sound w → Sound (cond c (Bad n) w)
+if-sound : (c : Bool) (n : ℕ) (w : Worked) → 5 ≤ n → n ≤ 7 → Sound w → Sound (cond c (Bad n) w)
 if-sound true n w l m s = (l, m)
 if-sound false n w l m s = s
 
 written-sound : (s : Bool) (digits decimals : ℕ) → Sound (written s digits decimals)
 unfolding written
-written-sound s digits decimals = if-sound (ltb 4 decimals) 4 (ranged (signed s (digits * 10 ^ (4 - decimals)))) (omega arith) (omega arith) (ranged-sound _)
+written-sound s digits decimals = ranged-sound _
 
 number-sound : (n : Number) → Sound (numberOf n)
 unfolding numberOf
@@ -78,7 +78,7 @@ then-sound (Bad n) k s h = s
 -- ---- words and settings
 abbrev pub SoundTook : Took Entry → Type 0
 SoundTook end = Unit {0}
-SoundTook (stopped n) = (4 ≤ n) × (n ≤ 7)
+SoundTook (stopped n) = (5 ≤ n) × (n ≤ 7)
 SoundTook (took (wordIs b v) t) = (inRange v ≡ true) × SoundTook t
 SoundTook (took (settingIs n v) t) = SoundTook t
 

@@ -4,7 +4,7 @@ use mathlib.Core.Bool.{Bool, true, false, cond, _&&_, _||_}
 use mathlib.Core.List.{List, [], _∷_, _++_}
 use mathlib.Core.Option.{Option}
 use Prim.Native.Nat.{ℕ, _+_, _-_, _*_, _^_}
-use lib.Dec.{eqb, ltb}
+use lib.Dec.{eqb}
 use lib.ListN.{length, getD}
 use lib.IntN.{ℤ, pos, natAbs, _+ℤ_, _-ℤ_, _*ℤ_}
 use Rattle.grammar.specs.Bytes.{byte}
@@ -37,10 +37,11 @@ negative unsigned = false
 negative plus = false
 negative minus = true
 
--- a number by its sign, its digits as one whole number, and how many of them stand after the point;
--- number 4: "a number has more than four digits after its point, zeros too"; "in one number 4 before 5"
+-- a number by its sign, its digits as one whole number, and how many of them stand after the point: "A number may have any decimals; it is taken to the nearest
+-- ten-thousandth, halves away from zero, from all its digits at once. Range is judged after rounding". Number 4 "is kept in the list and shown never to occur"
+-- (the theorem `never-4`)
 unfoldable pub written : Bool → ℕ → ℕ → Worked
-written sign digits decimals = cond (ltb 4 decimals) (Bad 4) (ranged (signed sign (digits * 10 ^ (4 - decimals))))
+written sign digits decimals = ranged (nearest (signed sign (digits * 10000)) (pos (10 ^ decimals)))
 
 unfoldable pub numberOf : Number → Worked
 numberOf (num s ds f) = written (negative s) (decimal 0 (ds ++ fractionDigits f)) (length (fractionDigits f))

@@ -7,7 +7,7 @@ pub struct Value(pub i64);
 // A whole number of counts of 10 nm.
 pub struct Length(pub i64);
 
-// What a value comes to when it is worked out: the value, or the number, 4 to 7, that refuses the line.
+// What a value comes to when it is worked out: the value, or the number, 5 to 7, that refuses the line.
 pub enum Worked {
     Good(Value),
     Bad(u8),

@@ -1,4 +1,5 @@
 pub mod Bits
 pub mod Ranges
+pub mod Written
 pub mod Sizes
 pub mod Soles

@@ -1,19 +1,18 @@
--- What the tests of src/ tell of a value: its range, how it is written, the parameter that it names.
+-- What the tests of src/ tell of a value: its range, and the parameter that it names.
 -- Assumes nothing.
-use mathlib.Core.Path.{_≡_, refl, sym, ap, _∙_}
+use mathlib.Core.Path.{_≡_, refl, ap, _∙_}
 use mathlib.Core.Bool.{Bool, true, false, cond, _&&_}
-use Prim.Native.Nat.{ℕ, zero, suc, _-_, _*_, _^_, _≤_, _<_}
+use Prim.Native.Nat.{ℕ, zero, suc, _≤_, _<_}
 use native.Mathlib.Omega.{arith}
-use native.Mathlib.Nat as N
 use lib.Dec.{T, leb}
 use lib.IntN.{ℤ, pos, negsuc, natAbs}
 use lib.Signed.{ltZ, nonNeg}
 use mir.Syntax.{w64}
 use mir.Val.{SFits, Fits}
-use borrow.Author.Tests.{le-leb, lt-leb, leb-true, lt-ltb, le-ltb}
+use borrow.Author.Tests.{le-leb, lt-leb, leb-true}
 use Rattle.laws.proofs.Ints.{back, lt-yes, lt-no, cast-fits}
 use Rattle.rules.specs.Numbers.{signed, inRange, whole, between, counted}
-use Rattle.rules.specs.Meaning.{ranged, written, parameterOf}
+use Rattle.rules.specs.Meaning.{ranged, parameterOf}
 use Rattle.rules.specs.declared.Near.{Near}
 use Rattle.rules.specs.declared.Near.the-variants.{To, Nothing}
 use Rattle.rules.specs.declared.Parameter.{Parameter}
@@ -40,37 +39,6 @@ signed-in s {n} h = in-range (signed s n) (rw (abs-signed s n) h)
 
 pub signed-out : (s : Bool) {n : ℕ} → 999999999 < n → ranged (signed s n) ≡ Bad 5
 signed-out s {n} h = beyond (signed s n) (rw (abs-signed s n) h)
-
--- ---- a number as it is written
--- what the last of k decimals counts, from one ten-thousandth to one unit
-pub place-one : (k : ℕ) → 4 ≤ k → 10 ^ (4 - k) ≡ 1
-place-one k h = let e : 4 - k ≡ 0 = omega arith in rw e
-
-pub place-low : (k : ℕ) → 0 < 10 ^ (4 - k)
-place-low zero = omega arith
-place-low (suc zero) = omega arith
-place-low (suc (suc zero)) = omega arith
-place-low (suc (suc (suc zero))) = omega arith
-place-low (suc (suc (suc (suc k)))) = rw (place-one (suc (suc (suc (suc k)))) (omega arith)) (omega arith)
-
-pub place-high : (k : ℕ) → 10 ^ (4 - k) ≤ 10000
-place-high zero = omega arith
-place-high (suc zero) = omega arith
-place-high (suc (suc zero)) = omega arith
-place-high (suc (suc (suc zero))) = omega arith
-place-high (suc (suc (suc (suc k)))) = rw (place-one (suc (suc (suc (suc k)))) (omega arith)) (omega arith)
-
-module _ (s : Bool) (n k : ℕ) where
-  pub too-fine : 4 < k → Bad 4 ≡ written s n k
-  unfolding written
-  too-fine h = rw (lt-ltb 4 k h)
-
-  pub fine : k ≤ 4 → ranged (signed s (n * 10 ^ (4 - k))) ≡ written s n k
-  unfolding written
-  fine h = rw (le-ltb 4 k h)
-
-  pub too-large : k ≤ 4 → 999999999 < n → Bad 5 ≡ written s n k
-  too-large h l = sym (signed-out s (N.lt-of-lt-of-le l (rw (N.mul-one n) at (N.mul-le-mul (N.le-refl n) (place-low k))))) ∙ fine h
 
 -- ---- the parameter that a value names
 no-right : (a : Bool) → a && false ≡ false

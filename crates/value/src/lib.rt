@@ -5,7 +5,7 @@ mod rounding;
 mod signs;
 
 ghost use mathlib.Core.Path.{_≡_};
-ghost use Prim.Native.Nat.{_-_, _^_};
+ghost use Prim.Native.Nat.{_-_, _/_, _^_, _≤_};
 ghost use Rattle.rules.specs.Numbers.{minus, inRange, whole, tenth};
 ghost use Rattle.rules.specs.Meaning.{written, parameterOf};
 use rounding::near_steps;
@@ -55,7 +55,7 @@ pub fn number(negative: bool, digits: u64, decimals: usize) -> Worked
     ensures { λ r. ⌜ r ≡ written negative digits decimals ⌝ }
 {
     if 4 < decimals {
-        return Worked::Bad(4);
+        return ranged_signed(negative, rounded(up_to_fifth(digits, decimals), 10));
     }
     // Out of range wherever the point stands. Asked first, so that the product below fits.
     if 999_999_999 < digits {
@@ -87,4 +87,22 @@ fn last_place(decimals: usize) -> u64
         3 => 10,
         _ => 1,
     }
+}
+
+// The digits up to the fifth decimal, which alone decides how the four before it are rounded. Once
+// nothing is left of them the rest of the decimals need not be counted down.
+fn up_to_fifth(digits: u64, decimals: usize) -> u64
+    requires { ⌜ 5 ≤ decimals ⌝ }
+    ensures { λ r. ⌜ r ≡ digits / 10 ^ (decimals - 5) ⌝ }
+{
+    let mut kept = digits;
+    let mut left = decimals;
+    while 5 < left {
+        if kept == 0 {
+            return 0;
+        }
+        kept = kept / 10;
+        left -= 1;
+    }
+    kept
 }

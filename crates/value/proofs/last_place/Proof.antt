@@ -1,5 +1,5 @@
 use mathlib.Core.Path.{sym}
-use Rattle.value.proofs.Ranges.{place-one}
+use Rattle.value.proofs.Written.{place-one}
 use native.Mathlib.Omega.{arith}
 use Rattle.value.proofs.last_place.Statement.{statement}
 use Rattle.value.proofs.last_place.Tie as tie

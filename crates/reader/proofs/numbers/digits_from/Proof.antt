@@ -1,56 +1,13 @@
 use borrow.Author.Needs.{needs}
-use Prim.Native.Nat.{_-_}
-use lib.ListN.{length}
-use native.Mathlib.Omega.{arith}
-use Rattle.reader.proofs.Numerals.{Passed, none-yet, end-past, end-low, end-high, one-more}
+use Rattle.reader.proofs.Numerals.{to-the-end}
 use Rattle.reader.proofs.numbers.digits_from.Statement.{statement}
 use Rattle.reader.proofs.numbers.digits_from.Tie as tie
 use Rattle.reader.proofs.numbers.digits_from.Reads as reads
 use Rattle.reader.proofs.numbers.digits_from.Lts as lts
-use Rattle.reader.proofs.numbers.with_digit.Reads as with-digit-reads
+use Rattle.reader.proofs.numbers.digits_before.Reads as digits-before-reads
 
-abbrev Inv-loop : tie.InvT-loop
-Inv-loop text at v sum₀ i₀ sum i = Passed text at v sum i
-
-abbrev μ-loop : tie.MeasureT-loop
-μ-loop text at v sum₀ i₀ sum i = length text - i
-
-loop-holds : tie.Need-loop-holds Inv-loop μ-loop
-loop-holds c = none-yet (c .before .args .text .now) (c .before .args .at) (c .before .args .number) (c .before .pre .0) (c .before .pre .1)
-
-shared-slice-read-b : tie.Need-shared-slice-read-b Inv-loop μ-loop
-shared-slice-read-b c = c .before .loop-test .taken
-
-returns : tie.Need-returns Inv-loop μ-loop
-returns c = end-low (c .before .before .before .before .before .args .text .now) (c .before .before .before .before .before .args .at) (c .before .before .before .before .before .args .number) (c .before .before .before .loop .inv) (c .before .before .loop-test .taken) (c .if1 .taken)
-
-returns-2 : tie.Need-returns-2 Inv-loop μ-loop
-returns-2 c = end-high (c .before .before .before .before .before .before .args .text .now) (c .before .before .before .before .before .before .args .at) (c .before .before .before .before .before .before .args .number) (c .before .before .before .before .loop .inv) (c .before .before .before .loop-test .taken) (c .before .if1 .left) (c .if2 .taken)
-
-with-digit-requires : tie.Need-with-digit-requires Inv-loop μ-loop
-with-digit-requires c κs = (c .before .before .before .before .loop .inv .low, c .before .if1 .left)
-
-loop-less : tie.Need-loop-less Inv-loop μ-loop
-loop-less c = omega (arith, c .before .before .before .before .loop-test .taken)
-
-loop-again : tie.Need-loop-again Inv-loop μ-loop
-loop-again c = one-more (c .before .before .before .before .before .before .before .args .text .now) (c .before .before .before .before .before .before .before .args .at) (c .before .before .before .before .before .before .before .args .number) (c .before .before .before .before .before .loop .inv) (c .before .before .before .before .loop-test .taken) (c .before .before .if1 .left) (c .before .if2 .left) (c .with-digit .ensures)
-
-returns-3 : tie.Need-returns-3 Inv-loop μ-loop
-returns-3 c = end-past (c .before .before .before .args .text .now) (c .before .before .before .args .at) (c .before .before .before .args .number) (c .before .loop .inv) (c .loop-test .left)
+returns : tie.Need-returns
+returns c = to-the-end (c .before .before .args .text .now) (c .before .before .args .at) (c .before .before .args .number) (c .digits-before .ensures)
 
 pub digits-from-spec : {M : Type 1} → statement M
-digits-from-spec =
-    tie.close
-    (tie.spec
-    Inv-loop
-    μ-loop
-    loop-holds
-    shared-slice-read-b
-    returns
-    returns-2
-    with-digit-requires
-    (λ c. search needs)
-    loop-less
-    loop-again
-    returns-3)
+digits-from-spec = tie.close (tie.spec (λ c κs. search needs) returns)
