@@ -798,14 +798,17 @@ impl<'a> Block<'a> {
 
     fn arc_wrong(&self, record: &Record, target: &[i64; 3], centre: &[i64; 2]) -> bool {
         let (first, second) = self.plane_axes();
-        let radius = |from: &[i64; 3]| {
+        let squared = |from: &[i64; 3]| {
             let (a, b) = (from[first] - centre[0], from[second] - centre[1]);
-            ((a * a) as u64 + (b * b) as u64).isqrt() as i64
+            (a * a) as u64 + (b * b) as u64
         };
-        let slack = if self.units == G20 { 508 } else { 200 };
-        // Only the centre itself has the whole radius 0.
-        let start = radius(&record.position);
-        start == 0 || (start - radius(target)).abs() > slack
+        let slack: u64 = if self.units == G20 { 508 } else { 200 };
+        let (start, end) = (squared(&record.position), squared(target));
+        // The roots differ by more than the slack where what the larger sum exceeds the other and the squared
+        // slack by is more than twice the slack times the other's root. The squares of that need 128 bits.
+        let more = start.abs_diff(end).saturating_sub(slack * slack);
+        let square = |n: u64| u128::from(n) * u128::from(n);
+        start == 0 || square(more) > u128::from(start.min(end)) * square(2 * slack)
     }
 
     fn named_out_of_reach(&self) -> bool {

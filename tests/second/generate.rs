@@ -298,6 +298,55 @@ fn arc_end(dice: &mut Dice, radius: [i64; 2]) -> [i64; 2] {
     end
 }
 
+/// An arc whose true radii differ by the slack, to a count or less, from a start that may be as far from the centre as
+/// the reach lets it be.
+fn limit_arc(dice: &mut Dice, draft: &mut Draft) {
+    draft.mode(dice, 1, &[20, 30]);
+    let units = draft.any_mode(dice, 6);
+    let axes = plane_axes(draft.any_mode(dice, 2));
+    let distance = draft.mode(dice, 3, &[900]);
+    let system = system_place(draft.any_mode(dice, 12));
+    draft.record.feed = draft.record.feed.max(1);
+    let size = dice.pick(&[30, 3_000, 2_000_000, REACH / counts(1, units), 2 * REACH / counts(1, units)]);
+    let mut centre = [dice.between(-size, size), dice.between(-size, size)];
+    if dice.one_in(3) {
+        centre[dice.below(2)] = 0;
+    }
+    let end = limit_end(dice, centre.map(|word| counts(word, units)), if units == 200 { 508 } else { 200 });
+    for place in 0..2 {
+        let (axis, word) = (axes[place], centre[place]);
+        let step = counts(word, units) + end[place];
+        move_start(dice, &mut draft.record.position[axis], [counts(word, units), step]);
+        draft.words.push((b"IJK"[axis], word));
+        arc_axis(dice, draft, (axis, units, distance, system), step);
+    }
+}
+
+/// An end as seen from the centre: the nearest point that passes or is refused, or one beside it.
+fn limit_end(dice: &mut Dice, start: [i64; 2], slack: u128) -> [i64; 2] {
+    let square = |part: i64| u128::from(part.unsigned_abs()).pow(2);
+    let sum = square(start[0]) + square(start[1]);
+    let twice = (4 * slack.pow(2) * sum).isqrt();
+    let limit = if dice.one_in(2) { sum + slack.pow(2) + twice } else { sum + slack.pow(2) - twice };
+    let longest = limit.isqrt() as i64;
+    let first = if dice.one_in(3) { longest - dice.between(0, longest.min(2)) } else { dice.between(0, longest) };
+    let second = (limit - square(first)).isqrt() as i64 + dice.between(-1, 2);
+    let mut end = [first, second].map(|part| if dice.one_in(2) { part } else { -part });
+    if dice.one_in(2) {
+        end.swap(0, 1);
+    }
+    end
+}
+
+/// Moves a start on one axis so that the places that lie so far from it are in reach, if they can be.
+fn move_start(dice: &mut Dice, start: &mut i64, from_it: [i64; 2]) {
+    let least = -REACH - from_it[0].min(from_it[1]).min(0);
+    let most = REACH - from_it[0].max(from_it[1]).max(0);
+    if least <= most && (dice.one_in(3) || !(least..=most).contains(start)) {
+        *start = if dice.one_in(2) { dice.between(least, most) } else { dice.pick(&[least, most]) };
+    }
+}
+
 /// The axis word of an arc that steps so far from the position.
 fn arc_axis(dice: &mut Dice, draft: &mut Draft, (axis, units, distance, system): (usize, i64, i64, usize), step: i64) {
     let unit = counts(1, units);
@@ -511,7 +560,8 @@ fn draft(dice: &mut Dice, record: Record) -> Draft {
     let mut draft = Draft { words: Vec::new(), items: Vec::new(), record, changes: Vec::new() };
     match dice.below(16) {
         0..=3 => straight(dice, &mut draft),
-        4..=7 => arc(dice, &mut draft),
+        4 | 5 => arc(dice, &mut draft),
+        6 | 7 => limit_arc(dice, &mut draft),
         8 | 9 => origins_and_offset(dice, &mut draft),
         10 => settings(dice, &mut draft),
         11 | 12 => free_values(dice, &mut draft),

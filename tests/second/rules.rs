@@ -894,9 +894,9 @@ impl Work {
         }
         let start = axes.map(|axis| self.record.position[axis]);
         let end = axes.map(|axis| target[axis]);
-        // "they may differ by 200 counts under G21, 508 under G20."
+        // "may differ by at most 200 or 508 counts".
         let slack = if self.record.units == 200 { 508 } else { 200 };
-        if start == centre || (radius(start, centre) - radius(end, centre)).abs() > slack {
+        if start == centre || too_unequal(squared(start, centre), squared(end, centre), slack) {
             return Err(14);
         }
         let (direction, plane) = (self.record.motion / 10, self.record.plane / 10);
@@ -928,10 +928,20 @@ fn reached(length: i64) -> Result<i64, u8> {
     }
 }
 
-/// "whole square roots, rounded down, of the summed squares".
-fn radius(point: [i64; 2], centre: [i64; 2]) -> i64 {
-    let square = |place: usize| i128::from(point[place] - centre[place]).pow(2);
-    (square(0) + square(1)).isqrt() as i64
+/// The sum of squares of a way from the centre.
+fn squared(point: [i64; 2], centre: [i64; 2]) -> u128 {
+    let along = |place: usize| u128::from(point[place].abs_diff(centre[place]));
+    along(0).pow(2) + along(1).pow(2)
+}
+
+/// "The true distances are to be compared: the roots of the two sums of squares, unrounded, may
+/// differ by at most" the slack. The square of their difference is a + b less twice the root of ab;
+/// what is squared again is below 2^128, since both places and the centre are in reach.
+fn too_unequal(a: u128, b: u128, slack: u128) -> bool {
+    match (a + b).checked_sub(slack.pow(2)) {
+        None => false,
+        Some(rest) => rest.pow(2) > 4 * a * b,
+    }
 }
 
 // ---------------------------------------------------------------- Numbers a refused line carries

@@ -1,4 +1,4 @@
-pub mod Unique
+pub mod Parts
 pub mod Ways
 pub mod BadArc
 pub mod Soles

@@ -12,7 +12,6 @@ use lib.IntN.{ℤ, natAbs}
 use borrow.Author.Tests.{leb-true, le-leb, eqb-true, eqb-false, ne-eqb}
 use Rattle.laws.proofs.Bools.{and-left, and-right, T-eq}
 use Rattle.laws.proofs.Ints.{Within, within-diff}
-use Rattle.rules.proofs.Roots.{square-small as small}
 use Rattle.rules.specs.Numbers.{within}
 use Rattle.rules.specs.Reach.{nowhere, at, _less_}
 use Rattle.rules.specs.Arcs.{square, squares, centreAt}
@@ -64,7 +63,7 @@ module _ (way : List Length) (two : length way ≡ 2) where
 
 -- ---- the square of a length in span
 pub square-small : (z : ℤ) → within 2000000000 z ≡ true → square z ≤ 4000000000000000000
-square-small z e = small z (leb-true (natAbs z) 2000000000 e)
+square-small z e = let h = leb-true (natAbs z) 2000000000 e in mul-le-mul h h
 
 -- the summed squares of a measurable way fit 64 bits
 pub sum-small : (way : List Length) → length way ≡ 2 → measurable way ≡ true → square (getD way 0 nowhere .0) + square (getD way 1 nowhere .0) ≤ 8000000000000000000

@@ -3,9 +3,8 @@
 use mathlib.Core.Bool.{Bool, true, not, _&&_, _||_}
 use mathlib.Core.List.{List, [], _∷_}
 use Prim.Native.Nat.{ℕ, _+_}
-use lib.Dec.{ltb}
 use Rattle.rules.specs.Numbers.{within}
-use Rattle.rules.specs.Arcs.{square, root, apart}
+use Rattle.rules.specs.Arcs.{square, unequal}
 use Rattle.rules.specs.declared.Length.{Length}
 
 -- "the summed squares"
@@ -18,6 +17,6 @@ abbrev pub measurable : List Length → Bool
 measurable [] = true
 measurable (l ∷ ls) = within 2000000000 (l .0) && measurable ls
 
--- "radii too unequal": they differ by more than the slack, or a way is longer than any between two places in reach
+-- "radii too unequal": their true lengths differ by more than the slack, or a way is longer than any between two places in reach
 unfoldable pub tooUnequal : List Length → List Length → ℕ → Bool
-tooUnequal start end slack = not (measurable start && measurable end) || ltb slack (apart (root (summed start)) (root (summed end)))
+tooUnequal start end slack = not (measurable start && measurable end) || unequal slack (summed start) (summed end)

@@ -16,7 +16,7 @@ use Rattle.rules.specs.Codes.{gGroup, mGroup, gCode, mCode, systemNumber
 use Rattle.rules.specs.Block.{gCodes, mCodes, blockOf, moves}
 use Rattle.rules.specs.Reach.{converted, inOrder, fresh}
 use Rattle.rules.specs.Steps.{feedStep, speedStep, toolStep, changeStep, spindleStep, coolantStep, planeStep, unitsStep, systemStep, distanceStep, originStep, offsetStep, target, motionStep, stopStep, ready, left}
-use Rattle.rules.specs.Arcs.{arcMove, planeAxes, centre, root, badArc}
+use Rattle.rules.specs.Arcs.{arcMove, planeAxes, centre, badArc}
 use Rattle.rules.specs.Commands.{commands}
 use Rattle.rules.specs.Refusals.{unserved, doubled, missing, idle, wrongWord, wrongMode, tooFar}
 use Rattle.rules.specs.Promise.{disorder, slashed, answerTo}
@@ -102,7 +102,7 @@ orderRows =
     ∷ []
 
 pub orders : All Kept orderRows
-unfolding strip inside valueOf restOf itemsOf nearest residue near ranged decimal written numberOf operation function parameterOf gGroup mGroup gCode mCode systemNumber gCodes mCodes blockOf moves converted inOrder fresh feedStep speedStep toolStep changeStep spindleStep coolantStep planeStep unitsStep systemStep distanceStep originStep offsetStep target motionStep stopStep ready left arcMove planeAxes centre root badArc commands unserved doubled missing idle wrongWord wrongMode tooFar disorder slashed answerTo
+unfolding strip inside valueOf restOf itemsOf nearest residue near ranged decimal written numberOf operation function parameterOf gGroup mGroup gCode mCode systemNumber gCodes mCodes blockOf moves converted inOrder fresh feedStep speedStep toolStep changeStep spindleStep coolantStep planeStep unitsStep systemStep distanceStep originStep offsetStep target motionStep stopStep ready left arcMove planeAxes centre badArc commands unserved doubled missing idle wrongWord wrongMode tooFar disorder slashed answerTo
 orders = kept orderRows refl
 
 -- ---- numbers 2 and 3, and the skip
@@ -132,7 +132,7 @@ formRows =
     ∷ "X1.23456 G" ∷ "X[1/0] Y" ∷ "G59.1." ∷ [])
 
 pub forms : All Kept formRows
-unfolding strip inside valueOf restOf itemsOf nearest residue near ranged decimal written numberOf operation function parameterOf gGroup mGroup gCode mCode systemNumber gCodes mCodes blockOf moves converted inOrder fresh feedStep speedStep toolStep changeStep spindleStep coolantStep planeStep unitsStep systemStep distanceStep originStep offsetStep target motionStep stopStep ready left arcMove planeAxes centre root badArc commands unserved doubled missing idle wrongWord wrongMode tooFar disorder slashed answerTo
+unfolding strip inside valueOf restOf itemsOf nearest residue near ranged decimal written numberOf operation function parameterOf gGroup mGroup gCode mCode systemNumber gCodes mCodes blockOf moves converted inOrder fresh feedStep speedStep toolStep changeStep spindleStep coolantStep planeStep unitsStep systemStep distanceStep originStep offsetStep target motionStep stopStep ready left arcMove planeAxes centre badArc commands unserved doubled missing idle wrongWord wrongMode tooFar disorder slashed answerTo
 forms = kept formRows refl
 
 -- ---- numbers 4 to 7, and what expressions come to
@@ -181,7 +181,7 @@ valueRows =
     ∷ []
 
 pub values : All Kept valueRows
-unfolding strip inside valueOf restOf itemsOf nearest residue near ranged decimal written numberOf operation function parameterOf gGroup mGroup gCode mCode systemNumber gCodes mCodes blockOf moves converted inOrder fresh feedStep speedStep toolStep changeStep spindleStep coolantStep planeStep unitsStep systemStep distanceStep originStep offsetStep target motionStep stopStep ready left arcMove planeAxes centre root badArc commands unserved doubled missing idle wrongWord wrongMode tooFar disorder slashed answerTo
+unfolding strip inside valueOf restOf itemsOf nearest residue near ranged decimal written numberOf operation function parameterOf gGroup mGroup gCode mCode systemNumber gCodes mCodes blockOf moves converted inOrder fresh feedStep speedStep toolStep changeStep spindleStep coolantStep planeStep unitsStep systemStep distanceStep originStep offsetStep target motionStep stopStep ready left arcMove planeAxes centre badArc commands unserved doubled missing idle wrongWord wrongMode tooFar disorder slashed answerTo
 values = kept valueRows refl
 
 -- ---- numbers 8 and 9
@@ -210,7 +210,7 @@ codeRows =
     ∷ []
 
 pub codes : All Kept codeRows
-unfolding strip inside valueOf restOf itemsOf nearest residue near ranged decimal written numberOf operation function parameterOf gGroup mGroup gCode mCode systemNumber gCodes mCodes blockOf moves converted inOrder fresh feedStep speedStep toolStep changeStep spindleStep coolantStep planeStep unitsStep systemStep distanceStep originStep offsetStep target motionStep stopStep ready left arcMove planeAxes centre root badArc commands unserved doubled missing idle wrongWord wrongMode tooFar disorder slashed answerTo
+unfolding strip inside valueOf restOf itemsOf nearest residue near ranged decimal written numberOf operation function parameterOf gGroup mGroup gCode mCode systemNumber gCodes mCodes blockOf moves converted inOrder fresh feedStep speedStep toolStep changeStep spindleStep coolantStep planeStep unitsStep systemStep distanceStep originStep offsetStep target motionStep stopStep ready left arcMove planeAxes centre badArc commands unserved doubled missing idle wrongWord wrongMode tooFar disorder slashed answerTo
 codes = kept codeRows refl
 
 -- ---- numbers 10 to 12
@@ -243,7 +243,7 @@ wordRows =
     ∷ []
 
 pub words : All Kept wordRows
-unfolding strip inside valueOf restOf itemsOf nearest residue near ranged decimal written numberOf operation function parameterOf gGroup mGroup gCode mCode systemNumber gCodes mCodes blockOf moves converted inOrder fresh feedStep speedStep toolStep changeStep spindleStep coolantStep planeStep unitsStep systemStep distanceStep originStep offsetStep target motionStep stopStep ready left arcMove planeAxes centre root badArc commands unserved doubled missing idle wrongWord wrongMode tooFar disorder slashed answerTo
+unfolding strip inside valueOf restOf itemsOf nearest residue near ranged decimal written numberOf operation function parameterOf gGroup mGroup gCode mCode systemNumber gCodes mCodes blockOf moves converted inOrder fresh feedStep speedStep toolStep changeStep spindleStep coolantStep planeStep unitsStep systemStep distanceStep originStep offsetStep target motionStep stopStep ready left arcMove planeAxes centre badArc commands unserved doubled missing idle wrongWord wrongMode tooFar disorder slashed answerTo
 words = kept wordRows refl
 
 -- ---- numbers 13 to 15
@@ -269,9 +269,12 @@ reachRows =
     ∷ gives "G3 X0.998 I0.5" (fed xyz0 10 170) (fed (xyz (pos 99800) (pos 0) (pos 0)) 30 170) (arcTo 3 17 (pos 99800) (pos 0) (pos 0) (pos 50000) (pos 0) ∷ [])
     ∷ gives "G20 G2 X1.0002 I0.5" (fed xyz0 10 170) (holding (xyz (pos 2540508) (pos 0) (pos 0)) unset xyz0 20 170 900 200 540 (pos 10000000) (pos 0) 0 0 0)
     (arcTo 2 17 (pos 2540508) (pos 0) (pos 0) (pos 1270000) (pos 0) ∷ [])
-    -- the radii are rounded down before they are compared: 260 and 460.98 counts differ by 200, 401.99 and 602.08 by 201
-    ∷ gives "G2 X0.0069 I0.0024 J0.001" (fed xyz0 10 170) (fed (xyz (pos 690) (pos 0) (pos 0)) 20 170) (arcTo 2 17 (pos 690) (pos 0) (pos 0) (pos 240) (pos 100) ∷ [])
-    ∷ refuses "G2 X0.0049 I0.0004 J0.004" (fed xyz0 10 170) 14
+    -- the true radii are compared: 260 and 460.98 counts lie too far apart, so do radii of 200.0002 counts' difference; 199.9999 are near enough, whichever is larger
+    ∷ refusing (fed xyz0 10 170) 14 ("G2 X0.0069 I0.0024 J0.001" ∷ "G2 X0.0049 I0.0004 J0.004" ∷ "G2 X0.0522 I0.0249 J0.0173" ∷ "G2 X0.0522 I0.0273 J0.0173" ∷ [])
+    ++ gives "G2 X0.0256 I0.0115 J0.0106" (fed xyz0 10 170) (fed (xyz (pos 2560) (pos 0) (pos 0)) 20 170) (arcTo 2 17 (pos 2560) (pos 0) (pos 0) (pos 1150) (pos 1060) ∷ [])
+    ∷ gives "G2 X0.0256 I0.0141 J0.0106" (fed xyz0 10 170) (fed (xyz (pos 2560) (pos 0) (pos 0)) 20 170) (arcTo 2 17 (pos 2560) (pos 0) (pos 0) (pos 1410) (pos 1060) ∷ [])
+    ∷ gives "G20 G2 X0.06 I0.0299 J0.0001" (fed xyz0 10 170) (holding (xyz (pos 152400) (pos 0) (pos 0)) unset xyz0 20 170 900 200 540 (pos 10000000) (pos 0) 0 0 0)
+    (arcTo 2 17 (pos 152400) (pos 0) (pos 0) (pos 75946) (pos 254) ∷ [])
     -- room for eight numbers a command
     ∷ row "G0 X1" fresh zeros (replicate 7 (pos 77)) 15 0 fresh zeros (replicate 7 (pos 77))
     ∷ row "G0 X1" fresh zeros (replicate 8 (pos 77)) 0 1 (moved (xyz (pos 100000) (pos 0) (pos 0)) 0) zeros (rapidTo (pos 100000) (pos 0) (pos 0))
@@ -281,7 +284,7 @@ reachRows =
     ∷ []
 
 pub reaches : All Kept reachRows
-unfolding strip inside valueOf restOf itemsOf nearest residue near ranged decimal written numberOf operation function parameterOf gGroup mGroup gCode mCode systemNumber gCodes mCodes blockOf moves converted inOrder fresh feedStep speedStep toolStep changeStep spindleStep coolantStep planeStep unitsStep systemStep distanceStep originStep offsetStep target motionStep stopStep ready left arcMove planeAxes centre root badArc commands unserved doubled missing idle wrongWord wrongMode tooFar disorder slashed answerTo
+unfolding strip inside valueOf restOf itemsOf nearest residue near ranged decimal written numberOf operation function parameterOf gGroup mGroup gCode mCode systemNumber gCodes mCodes blockOf moves converted inOrder fresh feedStep speedStep toolStep changeStep spindleStep coolantStep planeStep unitsStep systemStep distanceStep originStep offsetStep target motionStep stopStep ready left arcMove planeAxes centre badArc commands unserved doubled missing idle wrongWord wrongMode tooFar disorder slashed answerTo
 reaches = kept reachRows refl
 
 -- ---- what an accepted line does
@@ -355,5 +358,5 @@ effectRows =
     ∷ []
 
 pub effects : All Kept effectRows
-unfolding strip inside valueOf restOf itemsOf nearest residue near ranged decimal written numberOf operation function parameterOf gGroup mGroup gCode mCode systemNumber gCodes mCodes blockOf moves converted inOrder fresh feedStep speedStep toolStep changeStep spindleStep coolantStep planeStep unitsStep systemStep distanceStep originStep offsetStep target motionStep stopStep ready left arcMove planeAxes centre root badArc commands unserved doubled missing idle wrongWord wrongMode tooFar disorder slashed answerTo
+unfolding strip inside valueOf restOf itemsOf nearest residue near ranged decimal written numberOf operation function parameterOf gGroup mGroup gCode mCode systemNumber gCodes mCodes blockOf moves converted inOrder fresh feedStep speedStep toolStep changeStep spindleStep coolantStep planeStep unitsStep systemStep distanceStep originStep offsetStep target motionStep stopStep ready left arcMove planeAxes centre badArc commands unserved doubled missing idle wrongWord wrongMode tooFar disorder slashed answerTo
 effects = kept effectRows refl

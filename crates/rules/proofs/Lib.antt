@@ -13,7 +13,8 @@ pub mod InOrder
 pub mod InRange
 pub mod Sound
 pub mod Order
-pub mod Roots
+pub mod Radii
+pub mod Fractions
 pub mod Nearest
 pub mod Residue
 pub mod Signs

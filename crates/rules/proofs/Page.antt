@@ -13,7 +13,7 @@ use Rattle.rules.specs.Codes.{gGroup, mGroup, gCode, mCode, systemNumber
 use Rattle.rules.specs.Block.{gCodes, mCodes, blockOf, moves}
 use Rattle.rules.specs.Reach.{converted, inOrder, fresh}
 use Rattle.rules.specs.Steps.{feedStep, speedStep, toolStep, changeStep, spindleStep, coolantStep, planeStep, unitsStep, systemStep, distanceStep, originStep, offsetStep, target, motionStep, stopStep, ready, left}
-use Rattle.rules.specs.Arcs.{arcMove, planeAxes, centre, root, badArc}
+use Rattle.rules.specs.Arcs.{arcMove, planeAxes, centre, badArc}
 use Rattle.rules.specs.Commands.{commands}
 use Rattle.rules.specs.Refusals.{unserved, doubled, missing, idle, wrongWord, wrongMode, tooFar}
 use Rattle.rules.specs.Promise.{disorder, slashed, answerTo}
@@ -63,7 +63,7 @@ pageRows =
     ∷ []
 
 pub page : All Kept pageRows
-unfolding strip inside valueOf restOf itemsOf nearest residue near ranged decimal written numberOf operation function parameterOf gGroup mGroup gCode mCode systemNumber gCodes mCodes blockOf moves converted inOrder fresh feedStep speedStep toolStep changeStep spindleStep coolantStep planeStep unitsStep systemStep distanceStep originStep offsetStep target motionStep stopStep ready left arcMove planeAxes centre root badArc commands unserved doubled missing idle wrongWord wrongMode tooFar disorder slashed answerTo
+unfolding strip inside valueOf restOf itemsOf nearest residue near ranged decimal written numberOf operation function parameterOf gGroup mGroup gCode mCode systemNumber gCodes mCodes blockOf moves converted inOrder fresh feedStep speedStep toolStep changeStep spindleStep coolantStep planeStep unitsStep systemStep distanceStep originStep offsetStep target motionStep stopStep ready left arcMove planeAxes centre badArc commands unserved doubled missing idle wrongWord wrongMode tooFar disorder slashed answerTo
 page = kept pageRows refl
 
 -- ---- "Errors that look reasonable"
@@ -78,7 +78,7 @@ entryTable = row "G0 #3=15 X#3" fresh (set zeros 3 (pos 10000)) room
     0 1 (holding (xyz (pos 100000) (pos 0) (pos 0)) unset xyz0 0 170 900 210 540 (pos 0) (pos 0) 0 0 0) (set zeros 3 (pos 150000)) (begins (rapidTo (pos 100000) (pos 0) (pos 0)))
 
 pub entry-table : Kept entryTable
-unfolding strip inside valueOf restOf itemsOf nearest residue near ranged decimal written numberOf operation function parameterOf gGroup mGroup gCode mCode systemNumber gCodes mCodes blockOf moves converted inOrder fresh feedStep speedStep toolStep changeStep spindleStep coolantStep planeStep unitsStep systemStep distanceStep originStep offsetStep target motionStep stopStep ready left arcMove planeAxes centre root badArc commands unserved doubled missing idle wrongWord wrongMode tooFar disorder slashed answerTo
+unfolding strip inside valueOf restOf itemsOf nearest residue near ranged decimal written numberOf operation function parameterOf gGroup mGroup gCode mCode systemNumber gCodes mCodes blockOf moves converted inOrder fresh feedStep speedStep toolStep changeStep spindleStep coolantStep planeStep unitsStep systemStep distanceStep originStep offsetStep target motionStep stopStep ready left arcMove planeAxes centre badArc commands unserved doubled missing idle wrongWord wrongMode tooFar disorder slashed answerTo
 entry-table = kept-row entryTable refl
 
 -- "cutting G59.1 to 59"
@@ -87,7 +87,7 @@ ownOrigin = gives "G59.1 G0 X0" (holding xyz0 twoOrigins xyz0 800 170 900 210 54
     (holding (xyz (pos 700) (pos 0) (pos 0)) twoOrigins xyz0 0 170 900 210 591 (pos 0) (pos 0) 0 0 0) (rapidTo (pos 700) (pos 0) (pos 0) ∷ [])
 
 pub own-origin : Kept ownOrigin
-unfolding strip inside valueOf restOf itemsOf nearest residue near ranged decimal written numberOf operation function parameterOf gGroup mGroup gCode mCode systemNumber gCodes mCodes blockOf moves converted inOrder fresh feedStep speedStep toolStep changeStep spindleStep coolantStep planeStep unitsStep systemStep distanceStep originStep offsetStep target motionStep stopStep ready left arcMove planeAxes centre root badArc commands unserved doubled missing idle wrongWord wrongMode tooFar disorder slashed answerTo
+unfolding strip inside valueOf restOf itemsOf nearest residue near ranged decimal written numberOf operation function parameterOf gGroup mGroup gCode mCode systemNumber gCodes mCodes blockOf moves converted inOrder fresh feedStep speedStep toolStep changeStep spindleStep coolantStep planeStep unitsStep systemStep distanceStep originStep offsetStep target motionStep stopStep ready left arcMove planeAxes centre badArc commands unserved doubled missing idle wrongWord wrongMode tooFar disorder slashed answerTo
 own-origin = kept-row ownOrigin refl
 
 -- "taking F in units the same line selects"
@@ -95,7 +95,7 @@ abbrev pub unitsBefore : Row
 unitsBefore = gives "G20 F10" fresh (holding xyz0 unset xyz0 800 170 900 200 540 (pos 1000000) (pos 0) 0 0 0) (feedAt (pos 1000000) ∷ [])
 
 pub units-before : Kept unitsBefore
-unfolding strip inside valueOf restOf itemsOf nearest residue near ranged decimal written numberOf operation function parameterOf gGroup mGroup gCode mCode systemNumber gCodes mCodes blockOf moves converted inOrder fresh feedStep speedStep toolStep changeStep spindleStep coolantStep planeStep unitsStep systemStep distanceStep originStep offsetStep target motionStep stopStep ready left arcMove planeAxes centre root badArc commands unserved doubled missing idle wrongWord wrongMode tooFar disorder slashed answerTo
+unfolding strip inside valueOf restOf itemsOf nearest residue near ranged decimal written numberOf operation function parameterOf gGroup mGroup gCode mCode systemNumber gCodes mCodes blockOf moves converted inOrder fresh feedStep speedStep toolStep changeStep spindleStep coolantStep planeStep unitsStep systemStep distanceStep originStep offsetStep target motionStep stopStep ready left arcMove planeAxes centre badArc commands unserved doubled missing idle wrongWord wrongMode tooFar disorder slashed answerTo
 units-before = kept-row unitsBefore refl
 
 -- "making G53 relative under G91"
@@ -104,7 +104,7 @@ machinePlace = gives "G53 X1" (holding (xyz (pos 500) (pos 0) (pos 0)) unset xyz
     (holding (xyz (pos 100000) (pos 0) (pos 0)) unset xyz0 0 170 910 210 540 (pos 0) (pos 0) 0 0 0) (rapidTo (pos 100000) (pos 0) (pos 0) ∷ [])
 
 pub machine-place : Kept machinePlace
-unfolding strip inside valueOf restOf itemsOf nearest residue near ranged decimal written numberOf operation function parameterOf gGroup mGroup gCode mCode systemNumber gCodes mCodes blockOf moves converted inOrder fresh feedStep speedStep toolStep changeStep spindleStep coolantStep planeStep unitsStep systemStep distanceStep originStep offsetStep target motionStep stopStep ready left arcMove planeAxes centre root badArc commands unserved doubled missing idle wrongWord wrongMode tooFar disorder slashed answerTo
+unfolding strip inside valueOf restOf itemsOf nearest residue near ranged decimal written numberOf operation function parameterOf gGroup mGroup gCode mCode systemNumber gCodes mCodes blockOf moves converted inOrder fresh feedStep speedStep toolStep changeStep spindleStep coolantStep planeStep unitsStep systemStep distanceStep originStep offsetStep target motionStep stopStep ready left arcMove planeAxes centre badArc commands unserved doubled missing idle wrongWord wrongMode tooFar disorder slashed answerTo
 machine-place = kept-row machinePlace refl
 
 -- "applying settings of a line later refused"
@@ -112,5 +112,5 @@ abbrev pub nothingSet : Row
 nothingSet = refuses "#3=1 G4" fresh 10
 
 pub nothing-set : Kept nothingSet
-unfolding strip inside valueOf restOf itemsOf nearest residue near ranged decimal written numberOf operation function parameterOf gGroup mGroup gCode mCode systemNumber gCodes mCodes blockOf moves converted inOrder fresh feedStep speedStep toolStep changeStep spindleStep coolantStep planeStep unitsStep systemStep distanceStep originStep offsetStep target motionStep stopStep ready left arcMove planeAxes centre root badArc commands unserved doubled missing idle wrongWord wrongMode tooFar disorder slashed answerTo
+unfolding strip inside valueOf restOf itemsOf nearest residue near ranged decimal written numberOf operation function parameterOf gGroup mGroup gCode mCode systemNumber gCodes mCodes blockOf moves converted inOrder fresh feedStep speedStep toolStep changeStep spindleStep coolantStep planeStep unitsStep systemStep distanceStep originStep offsetStep target motionStep stopStep ready left arcMove planeAxes centre badArc commands unserved doubled missing idle wrongWord wrongMode tooFar disorder slashed answerTo
 nothing-set = kept-row nothingSet refl

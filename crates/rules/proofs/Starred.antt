@@ -13,7 +13,7 @@ use Rattle.rules.specs.Codes.{gGroup, mGroup, gCode, mCode, systemNumber
 use Rattle.rules.specs.Block.{gCodes, mCodes, blockOf, moves}
 use Rattle.rules.specs.Reach.{converted, inOrder, fresh}
 use Rattle.rules.specs.Steps.{feedStep, speedStep, toolStep, changeStep, spindleStep, coolantStep, planeStep, unitsStep, systemStep, distanceStep, originStep, offsetStep, target, motionStep, stopStep, ready, left}
-use Rattle.rules.specs.Arcs.{arcMove, planeAxes, centre, root, badArc}
+use Rattle.rules.specs.Arcs.{arcMove, planeAxes, centre, badArc}
 use Rattle.rules.specs.Commands.{commands}
 use Rattle.rules.specs.Refusals.{unserved, doubled, missing, idle, wrongWord, wrongMode, tooFar}
 use Rattle.rules.specs.Promise.{disorder, slashed, answerTo}
@@ -63,7 +63,7 @@ stars =
     ∷ []
 
 pub starred : All Shown stars
-unfolding strip inside valueOf restOf itemsOf nearest residue near ranged decimal written numberOf operation function parameterOf gGroup mGroup gCode mCode systemNumber gCodes mCodes blockOf moves converted inOrder fresh feedStep speedStep toolStep changeStep spindleStep coolantStep planeStep unitsStep systemStep distanceStep originStep offsetStep target motionStep stopStep ready left arcMove planeAxes centre root badArc commands unserved doubled missing idle wrongWord wrongMode tooFar disorder slashed answerTo
+unfolding strip inside valueOf restOf itemsOf nearest residue near ranged decimal written numberOf operation function parameterOf gGroup mGroup gCode mCode systemNumber gCodes mCodes blockOf moves converted inOrder fresh feedStep speedStep toolStep changeStep spindleStep coolantStep planeStep unitsStep systemStep distanceStep originStep offsetStep target motionStep stopStep ready left arcMove planeAxes centre badArc commands unserved doubled missing idle wrongWord wrongMode tooFar disorder slashed answerTo
 starred = shown stars refl refl
 
 -- "Fresh: zeros, G80 G17 G90 G21 G54"

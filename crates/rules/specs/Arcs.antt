@@ -2,8 +2,8 @@
 -- Assumes nothing.
 use mathlib.Core.Bool.{Bool, true, false, cond, _&&_, _||_}
 use mathlib.Core.List.{List, [], _∷_, map}
-use Prim.Native.Nat.{ℕ, zero, suc, _+_, _-_, _*_, _/_}
-use lib.Dec.{eqb, leb, ltb}
+use Prim.Native.Nat.{ℕ, _+_, _-_, _*_}
+use lib.Dec.{eqb, ltb}
 use lib.IntN.{ℤ, pos, natAbs}
 use Rattle.grammar.specs.Bytes.{among}
 use Rattle.rules.specs.Block.{offset, moves}
@@ -39,28 +39,17 @@ squares b r p (i ∷ is) = square ((at p i less centreAt b r i) .0) + squares b 
 abbrev pub away : Block → Record → List Length → ℕ
 away b r p = squares b r p (planeAxes (r .plane))
 
--- the next larger number, where its square is not too large
-abbrev pub raised : ℕ → ℕ → ℕ
-raised r n = cond (leb (suc r * suc r) n) (suc r) r
-
--- "whole square roots, rounded down": from the root of a quarter, in as many steps as there are base-four digits
-abbrev pub rootIn : ℕ → ℕ → ℕ
-rootIn zero n = 0
-rootIn (suc k) n = raised (2 * rootIn k (n / 4)) n
-
-unfoldable pub root : ℕ → ℕ
-root n = rootIn 32 n
-
--- how far two numbers lie apart
-abbrev pub apart : ℕ → ℕ → ℕ
-apart a b = (a - b) + (b - a)
-
--- "they may differ by 200 counts under G21, 508 under G20"
+-- "200 counts under G21, 508 under G20"
 abbrev pub slack : ℕ → ℕ
 slack units = cond (eqb units 200) 508 200
+
+-- "The true distances are to be compared: the roots of the two sums of squares, unrounded, may differ by at most" t counts, over whole numbers: √a and √b differ by
+-- at most t exactly when a + b - t² is at most 2√ab; where t² is the larger, the difference is 0
+abbrev pub unequal : ℕ → ℕ → ℕ → Bool
+unequal t a b = ltb (4 * (a * b)) ((a + b - t * t) * (a + b - t * t))
 
 -- number 14: "an arc's start is its centre, or radii too unequal"
 unfoldable pub badArc : Block → Record → Bool
 badArc b r =
     eqb (away b r (r .position)) 0
-    || ltb (slack (r .units)) (apart (root (away b r (r .position))) (root (away b r (target b r))))
+    || unequal (slack (r .units)) (away b r (r .position)) (away b r (target b r))

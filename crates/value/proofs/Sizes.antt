@@ -11,11 +11,10 @@ use lib.Dec.{leb, ltb}
 use lib.IntN.{ℤ, pos, natAbs, _-ℤ_, _*ℤ_}
 use borrow.Author.Tests.{le-leb, lt-leb, ltb-true, ltb-false}
 use Rattle.rules.specs.Numbers.{minus, signed, differ, within, nearest, near}
-use Rattle.rules.specs.Arcs.{apart}
 use Rattle.rules.specs.declared.Near.the-variants.{To, Nothing}
 use Rattle.rules.proofs.Signs.{signed-abs}
 use Rattle.rules.proofs.Nearest.{nearest-by, signed-times, signed-apart}
-use Rattle.value.specs.Guarded.{nearestSize, nearSize}
+use Rattle.value.specs.Guarded.{nearestSize, apart, nearSize}
 
 -- ---- to the nearest
 -- what is divided by 0 is 0
