@@ -1,7 +1,9 @@
-//! The yardstick: standard input to frames by document 01's rules, as a careful engineer would write it in Rust for
-//! speed. One pass over each line, no allocation for a line, safe Rust, no crates. `rustc -O --edition 2021`, for the
-//! compiler's default processor (bench/reader.sh); bench/compare.sh holds it to be right.
+//! The yardstick: standard input to frames by document 01's rules, with the requests of document 02 that have landed,
+//! as a careful engineer would write it in Rust for speed. One pass over each line, no allocation for a line, safe
+//! Rust, no crates. `rustc -O --edition 2021`, for the compiler's default processor (bench/reader.sh);
+//! bench/compare.sh holds it to be right.
 
+use std::hint::black_box;
 use std::io::{self, Read, Write};
 
 /// A value's reach, in ten-thousandths of a program unit.
@@ -16,6 +18,8 @@ const ONE: i64 = 10_000;
 /// What a value one tenth larger differs by: G codes go by tenths.
 const TENTH: i64 = 1_000;
 const LONGEST_LINE: usize = 256;
+/// The most `[` and `#` that may stand one within another.
+const DEEPEST: usize = 24;
 const TABLE_LENGTH: usize = 5_000;
 /// "#1=1" has four bytes, so a line holds no more settings.
 const MOST_SETTINGS: usize = LONGEST_LINE / 4;
@@ -39,6 +43,7 @@ const WRONG_AMOUNT: Refusal = 11;
 const NO_MOTION: Refusal = 12;
 const OUT_OF_REACH: Refusal = 13;
 const WRONG_ARC: Refusal = 14;
+const TOO_DEEP: Refusal = 16;
 
 // ---------------------------------------------------------------- Tables
 
@@ -282,6 +287,11 @@ struct Reader<'a> {
     line: &'a [u8],
     place: usize,
     table: &'a [i64; TABLE_LENGTH],
+    /// Values and operators so far.
+    work: usize,
+    /// How many `[` and `#` are around the place, and whether they have ever been too many.
+    depth: usize,
+    too_deep: bool,
 }
 
 impl Reader<'_> {
@@ -366,6 +376,7 @@ impl Reader<'_> {
     /// A number is by far the most frequent value, so it alone is read where the value is wanted.
     #[inline(always)]
     fn value(&mut self) -> Option<Value> {
+        self.work += 1;
         let first = self.next();
         if first.is_ascii_digit() || first == b'-' || first == b'.' || first == b'+' {
             self.number(first)
@@ -377,18 +388,26 @@ impl Reader<'_> {
     #[inline(never)]
     fn other_value(&mut self, first: u8) -> Option<Value> {
         self.place += 1;
-        match first {
+        self.depth += 1;
+        self.too_deep |= self.depth > DEEPEST;
+        let value = match first {
             b'#' => {
                 let number = self.value()?.parameter();
-                Some(if number.refusal != 0 { number } else { ranged(self.table[number.amount as usize]) })
+                if number.refusal != 0 {
+                    number
+                } else {
+                    ranged(self.table[number.amount as usize])
+                }
             }
-            b'[' => self.expression(),
-            b'A' => self.function(b"BS[", i64::abs),
-            b'R' => self.function(b"OUND[", rounded),
-            b'F' if self.next() == b'I' => self.function(b"IX[", down),
-            b'F' => self.function(b"UP[", up),
-            _ => None,
-        }
+            b'[' => self.expression()?,
+            b'A' => self.function(b"BS[", i64::abs)?,
+            b'R' => self.function(b"OUND[", rounded)?,
+            b'F' if self.next() == b'I' => self.function(b"IX[", down)?,
+            b'F' => self.function(b"UP[", up)?,
+            _ => return None,
+        };
+        self.depth -= 1;
+        Some(value)
     }
 
     #[inline(always)]
@@ -415,6 +434,7 @@ impl Reader<'_> {
                 b'X' => self.spelled(b"OR")?,
                 _ => return None,
             }
+            self.work += 1;
             let value = self.value()?;
             if matches!(first, b'*' | b'/' | b'M') {
                 term = worked(first, term, value);
@@ -576,6 +596,9 @@ fn read_line(reader: &mut Reader, spaces: &mut Spaces) -> Option<Seen> {
     loop {
         let first = reader.next();
         if first == 0 {
+            if reader.too_deep {
+                seen.refusal = TOO_DEEP;
+            }
             return Some(seen);
         }
         reader.place += 1;
@@ -723,7 +746,7 @@ impl<'a> Block<'a> {
             || (self.once == G53 && self.motion != 0 && self.motion != 10)
     }
 
-    /// Numbers 4 to 12.
+    /// Numbers 16 and 4 to 12.
     #[inline(always)]
     fn refusal(&self) -> Refusal {
         if self.seen.refusal != 0 {
@@ -997,17 +1020,19 @@ impl Session {
         Session { record: Record::fresh(), table: Box::new([0; TABLE_LENGTH]), spaces }
     }
 
-    /// The frames of one line, or why it is refused; a refused line changes nothing. The output space of document
-    /// 01's program is larger than any line's commands, so number 15 cannot come.
-    fn line(&mut self, line: &[u8], frames: &mut Frames) -> Result<(), Refusal> {
+    /// The frames of one line, and the values and operations worked out for it; or why it is refused: a refused line
+    /// changes nothing. The output space of document 01's program is larger than any line's commands, so number 15
+    /// cannot come.
+    fn line(&mut self, line: &[u8], frames: &mut Frames) -> Result<usize, Refusal> {
         if !self.record.in_order() {
             return Err(OUT_OF_ORDER);
         }
         if line.len() > LONGEST_LINE {
             return Err(TOO_LONG);
         }
-        let mut reader = Reader { line, place: 0, table: &self.table };
+        let mut reader = Reader { line, place: 0, table: &self.table, work: 0, depth: 0, too_deep: false };
         let seen = read_line(&mut reader, &mut self.spaces).ok_or(WRONG_FORM)?;
+        let work = reader.work;
         let block = Block::new(seen, &self.spaces, &self.record);
         match block.refusal() {
             0 => {}
@@ -1018,7 +1043,7 @@ impl Session {
         for &(number, value) in &self.spaces.settings[..block.seen.settings] {
             self.table[number as usize] = value;
         }
-        Ok(())
+        Ok(work)
     }
 }
 
@@ -1061,9 +1086,13 @@ fn work_lines(
         if frames.text.len() - frames.end < LINE_OF_FRAMES {
             frames.write_out(output)?;
         }
-        if let Err(refusal) = session.line(line, frames) {
-            frames.put(0xFF, &[refusal as i64]);
-            return Ok(None);
+        match session.line(line, frames) {
+            // Frames do not tell it; it is counted all the same, as in what is measured beside this.
+            Ok(work) => drop(black_box(work)),
+            Err(refusal) => {
+                frames.put(0xFF, &[refusal as i64]);
+                return Ok(None);
+            }
         }
         used += length;
     }

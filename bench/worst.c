@@ -34,6 +34,7 @@ static const struct kind kinds[] = {
     {"settings of settings", "", "##1=#1", "", ""},
     {"brackets", "X", "[", "1", "]"},
     {"brackets never closed", "X", "[", "", ""},
+    {"nests of 24 in a sum", "X[1", "+[[[[[[[[[[[[[[[[[[[[[[[1]]]]]]]]]]]]]]]]]]]]]]]", "]", ""},
     {"parameters of parameters", "X", "#", "1", ""},
     {"parameters of brackets", "X", "#[", "1", "]"},
     {"functions", "X", "ABS[", "1", "]"},

@@ -170,15 +170,17 @@ enum {
 
 /* ---- the call */
 
-/* Bytes of stack to keep free for a call. Measured, on a painted stack (tests/headers/stack.c): some 7,500 for a
-   plain line and 72,000 for the deepest of 256 bytes, right (X##..#1) or wrong (X[[..[). */
+/* Bytes of stack to keep free for a call. Measured, on a painted stack (tests/headers/stack.c): 6,216 for a
+   plain line, and 18,640 at most, for the deepest of 256 bytes, right or wrong (docs/STACK.md). */
 enum {
-    RS274_STACK = 81920
+    RS274_STACK = 24576
 };
 
 struct rs274_answer {
-    uint32_t number; /* RS274_ACCEPTED, RS274_SKIPPED, or a refusal, 1 to 15: rs274_why and rs274_remedy tell */
+    uint32_t number; /* RS274_ACCEPTED, RS274_SKIPPED, or a refusal, 1 to 16: rs274_why and rs274_remedy tell */
     uint64_t count;  /* commands written to out, eight numbers each; 0 unless accepted */
+    uint64_t work;   /* values and operations worked out, one for each value and each operator of the line: never more */
+                     /* than its bytes that are neither blank nor in a comment; 0 unless accepted */
 };
 
 #ifdef __cplusplus

@@ -9,14 +9,16 @@
 
 /* Hundreds go up when something that a firmware relies on changes its meaning, ones when something is added.
    The headers and the libraries of one checkout belong together. */
-#define RS274_VERSION 101
+#define RS274_VERSION 200
 
 enum {
-    RS274_LINE = 256 /* the most bytes that a line may have, without its end marker */
+    RS274_LINE = 256,  /* the most bytes that a line may have, without its end marker */
+    RS274_NESTING = 24 /* the most [ and # that may stand one within another, the first # of a setting aside */
 };
 
-/* The number that a line carries. Where several apply it is the lowest, but of 5 to 7 the first that is met while
-   the line's values are worked out. A skip is decided after 2: what else is wrong with the line is not looked for. */
+/* The number that a line carries. Where several apply it is the lowest, but 16 comes after 3 and before 4, and of 5
+   to 7 it is the first that is met while the line's values are worked out. A skip is decided after 2: what else is
+   wrong with the line is not looked for. */
 enum {
     RS274_ACCEPTED = 0,
     RS274_REFUSED_OUT_OF_ORDER = 1,
@@ -34,6 +36,7 @@ enum {
     RS274_REFUSED_REACH = 13,
     RS274_REFUSED_ARC = 14,
     RS274_REFUSED_ROOM = 15,
+    RS274_REFUSED_NESTING = 16,
     RS274_SKIPPED = 100
 };
 
@@ -57,6 +60,7 @@ static inline const char *rs274_why(uint32_t number) {
     case RS274_REFUSED_REACH: return "a target, centre, origin or offset is beyond 1000000000 counts, which are 10 m";
     case RS274_REFUSED_ARC: return "an arc starts at its centre, or its end is not as far from the centre as its start";
     case RS274_REFUSED_ROOM: return "the output space is too short for the line's commands";
+    case RS274_REFUSED_NESTING: return "more than 24 of [ and # stand one within another";
     case RS274_SKIPPED: return "the line is skipped, since it begins with / and block delete is on";
     default: return "no line carries this number";
     }
@@ -85,6 +89,7 @@ static inline const char *rs274_remedy(uint32_t number) {
     case RS274_REFUSED_REACH: return "look at the units, the origin and the G92 offset in force";
     case RS274_REFUSED_ARC: return "the two radii may differ by 0.002 mm, under G20 by 0.0002 inch: look at I J K and the end";
     case RS274_REFUSED_ROOM: return "lend RS274_COMMANDS times RS274_COMMAND numbers of output space";
+    case RS274_REFUSED_NESTING: return "work out the inner part first, by a setting on a line of its own";
     default: return "nothing is to be done";
     }
 }

@@ -25,10 +25,10 @@ enum {
     RS274_WRONG = RS274_REFUSED_FORM       /* 3: of wrong form */
 };
 
-/* Bytes of stack to keep free for a call. Measured, on a painted stack (tests/headers/stack.c): some 800 for a
-   plain line and 66,000 for the deepest of 256 bytes, right (X##..#1) or wrong (X[[..[). */
+/* Bytes of stack to keep free for a call. Measured, on a painted stack (tests/headers/stack.c): some 500, whatever
+   the line: a value within a value is no call within a call here (docs/STACK.md). */
 enum {
-    RS274_FORM_STACK = 73728
+    RS274_FORM_STACK = 1024
 };
 
 #ifdef __cplusplus

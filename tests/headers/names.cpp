@@ -39,12 +39,19 @@ const Refused refused[] = {
     {RS274_REFUSED_TWICE, "G1 G0 X1"},    {RS274_REFUSED_WORDS, "G4"},          {RS274_REFUSED_WORD_VALUE, "G4 P-1"},
     {RS274_REFUSED_MOVE, "X1"},           {RS274_REFUSED_REACH, "G0 X10000.0001"},
     {RS274_REFUSED_ARC, "F1 G2 X1 I0"},
+    {RS274_REFUSED_NESTING, "S[[[[[[[[[[[[[[[[[[[[[[[[[1]]]]]]]]]]]]]]]]]]]]]]]]]"},
 };
 
 void refusals() {
     static const char spaces[] = "                                                                ";
     char line[RS274_LINE + 2] = "";
     for (const Refused &r : refused) hold(r.line, work(r.line), r.number);
+    strcpy(line, "#1=");
+    memset(line + 3, '[', RS274_NESTING);
+    line[3 + RS274_NESTING] = '1';
+    memset(line + 4 + RS274_NESTING, ']', RS274_NESTING);
+    hold("the deepest nest", work(line), RS274_ACCEPTED);
+    memset(line, 0, sizeof line);
     hold("no room", work("M6", RS274_COMMAND - 1), RS274_REFUSED_ROOM);
     hold("room", work("M6", RS274_COMMAND), RS274_ACCEPTED);
     hold("skipped", work("/M6", 0, true), RS274_SKIPPED);
@@ -60,8 +67,8 @@ void refusals() {
 
 void texts() {
     for (uint32_t a = 0; a <= RS274_SKIPPED; a++) {
-        bool carried = a <= RS274_REFUSED_ROOM || a == RS274_SKIPPED;
-        bool remedied = RS274_REFUSED_OUT_OF_ORDER <= a && a <= RS274_REFUSED_ROOM && a != RS274_REFUSED_DECIMALS;
+        bool carried = a <= RS274_REFUSED_NESTING || a == RS274_SKIPPED;
+        bool remedied = RS274_REFUSED_OUT_OF_ORDER <= a && a <= RS274_REFUSED_NESTING && a != RS274_REFUSED_DECIMALS;
         hold("why", strcmp(rs274_why(a), rs274_why(99)) != 0, carried);
         hold("remedy", strcmp(rs274_remedy(a), rs274_remedy(99)) != 0, remedied);
         for (uint32_t b = 0; carried && b < a; b++) hold("two texts", strcmp(rs274_why(a), rs274_why(b)) != 0, true);
@@ -115,6 +122,18 @@ void settings() {
          RS274_COMMANDS);
 }
 
+uint64_t work_of(const char *line) {
+    const uint8_t *bytes = reinterpret_cast<const uint8_t *>(line);
+    return rs274_line(bytes, strlen(line), false, rec, RS274_RECORD, table, RS274_TABLE, out, sizeof out / sizeof *out).work;
+}
+
+void reports() {
+    hold("the work of nothing", static_cast<long long>(work_of("N1 (a comment)")), 0);
+    hold("the work of S[1+2*3]", static_cast<long long>(work_of("S[1+2*3]")), 6);
+    hold("the work of a setting", static_cast<long long>(work_of("#[1]=2")), 3);
+    hold("the work of a refused line", static_cast<long long>(work_of("S[1/0]")), 0);
+}
+
 void form(const char *line, uint32_t want) {
     hold(line, rs274_form(reinterpret_cast<const uint8_t *>(line), strlen(line)), want);
 }
@@ -126,6 +145,7 @@ int main() {
     refusals();
     texts();
     settings();
+    reports();
     form("G59.4", RS274_RIGHT);
     form("G", RS274_WRONG);
     hold("257 bytes", rs274_form(reinterpret_cast<const uint8_t *>(table), RS274_LINE + 1), RS274_TOO_LONG);

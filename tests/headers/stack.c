@@ -1,7 +1,8 @@
 /*
  * How much stack the libraries need: each call runs on a stack of its own, all of it painted before, and the
  * deepest byte that has lost its paint tells. The lines are plain ones, the fullest ones, and for each way in which
- * values nest the deepest that 256 bytes can hold, right and wrong. No need may be more than the headers say.
+ * values nest the deepest that is worked out, one level more, and the deepest that 256 bytes can hold, right and wrong.
+ * No need may be more than the headers say.
  */
 #include <stdio.h>
 #include <string.h>
@@ -9,7 +10,7 @@
 #include "rs274.h"
 #include "rs274_panel.h"
 
-enum { ROOM = 1 << 20, PAINT = 0xA5 };
+enum { ROOM = 1 << 20, PAINT = 0xA5, DEEPEST = 24, ANY = RS274_LINE };
 
 static unsigned char room[ROOM] __attribute__((aligned(16)));
 static uint8_t line[RS274_LINE];
@@ -37,10 +38,12 @@ static size_t depth(void (*call)(void)) {
     return ROOM - kept;
 }
 
-/* A line of opening, then a middle as often as it fits beside its closing, then a core and the closings. */
-static void nest(const char *opening, const char *middle, const char *core, const char *closing) {
+/* A line of opening, then a middle as often as it fits beside its closing, but not more than so many times, then a core
+   and the closings. */
+static void nest(const char *opening, const char *middle, const char *core, const char *closing, size_t most) {
     size_t m = strlen(middle), c = strlen(closing), used = strlen(opening) + strlen(core);
     size_t times = (RS274_LINE - used) / (m + c);
+    if (most < times) times = most;
     uint8_t *to = line;
     memcpy(to, opening, strlen(opening));
     to += strlen(opening);
@@ -53,27 +56,37 @@ static void nest(const char *opening, const char *middle, const char *core, cons
 
 static const struct {
     const char *name, *opening, *middle, *core, *closing;
+    size_t most;
 } lines[] = {
-    {"plain", "G1 X12.5 Y-3 F300", " ", "", ""},
-    {"every command", "F100 S1 T2 M6 M3 M8 G4 P1 G17 G21 G54 G90 X1 Y1 Z1 M2", " ", "", ""},
-    {"arc", "G2 X1 I0.5 F100", " ", "", ""},
-    {"most words", "", "X1", "", ""},
-    {"most settings", "", "#1=1", "", ""},
-    {"brackets", "X", "[", "1", "]"},
-    {"parameters", "X", "#", "1", ""},
-    {"parameters and brackets", "X", "#[", "1", "]"},
-    {"functions", "X", "ABS[", "1", "]"},
-    {"sums", "X", "[1+", "1", "]"},
-    {"products", "X", "[1*", "1", "]"},
-    {"sums of products", "X", "[1+1*", "1", "]"},
-    {"left settings", "", "#", "1=1", ""},
-    {"right settings", "#1=", "[", "1", "]"},
-    {"open brackets", "X", "[", "", ""},
-    {"open brackets of a setting", "#", "[", "", ""},
-    {"open functions", "X", "ABS[", "", ""},
-    {"open sums", "X", "[1+", "", ""},
-    {"open parameters and brackets", "X", "#[", "", ""},
-    {"parameters of nothing", "X", "#", "", ""},
+    {"plain", "G1 X12.5 Y-3 F300", " ", "", "", ANY},
+    {"every command", "F100 S1 T2 M6 M3 M8 G4 P1 G17 G21 G54 G90 X1 Y1 Z1 M2", " ", "", "", ANY},
+    {"arc", "G2 X1 I0.5 F100", " ", "", "", ANY},
+    {"most words", "", "X1", "", "", ANY},
+    {"most settings", "", "#1=1", "", "", ANY},
+    {"brackets", "X", "[", "1", "]", ANY},
+    {"parameters", "X", "#", "1", "", ANY},
+    {"parameters and brackets", "X", "#[", "1", "]", ANY},
+    {"functions", "X", "ABS[", "1", "]", ANY},
+    {"sums", "X", "[1+", "1", "]", ANY},
+    {"products", "X", "[1*", "1", "]", ANY},
+    {"sums of products", "X", "[1+1*", "1", "]", ANY},
+    {"left settings", "", "#", "1=1", "", ANY},
+    {"right settings", "#1=", "[", "1", "]", ANY},
+    {"open brackets", "X", "[", "", "", ANY},
+    {"open brackets of a setting", "#", "[", "", "", ANY},
+    {"open functions", "X", "ABS[", "", "", ANY},
+    {"open sums", "X", "[1+", "", "", ANY},
+    {"open parameters and brackets", "X", "#[", "", "", ANY},
+    {"parameters of nothing", "X", "#", "", "", ANY},
+    {"24 brackets", "X", "[", "1", "]", DEEPEST},
+    {"24 parameters", "X", "#", "1", "", DEEPEST},
+    {"24 parameters and brackets", "X", "#[", "1", "]", DEEPEST / 2},
+    {"24 functions of sums", "X", "ABS[1+", "1", "]", DEEPEST},
+    {"24 sums of products", "X", "[1+1*", "1", "]", DEEPEST},
+    {"25 brackets", "X", "[", "1", "]", DEEPEST + 1},
+    {"25 parameters", "X", "#", "1", "", DEEPEST + 1},
+    {"25 functions of sums", "X", "ABS[1+", "1", "]", DEEPEST + 1},
+    {"a long sum", "X[1", "+1", "]", "", ANY},
 };
 
 static void begin(void) {
@@ -86,7 +99,7 @@ static void begin(void) {
 int main(void) {
     size_t most_line = 0, most_form = 0;
     for (size_t i = 0; i < sizeof lines / sizeof *lines; i++) {
-        nest(lines[i].opening, lines[i].middle, lines[i].core, lines[i].closing);
+        nest(lines[i].opening, lines[i].middle, lines[i].core, lines[i].closing, lines[i].most);
         begin();
         size_t line_need = depth(work);
         uint32_t answer = number;

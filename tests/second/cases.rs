@@ -1,6 +1,6 @@
 //! Cases and their answers, and how both are written: the columns are those of README.md.
 
-use crate::rules::{self, Record, COMMAND_LENGTH};
+use crate::rules::{self, Record, Told, COMMAND_LENGTH};
 
 /// What the room of a case holds before the line is worked.
 const FILLER: i64 = 77;
@@ -21,6 +21,7 @@ pub struct Case {
 pub struct Answer {
     pub number: u64,
     pub count: usize,
+    pub work: usize,
     pub record: [i64; 43],
     pub changes: Vec<(usize, i64)>,
     pub output: Vec<i64>,
@@ -35,12 +36,12 @@ pub fn work(case: &Case) -> Answer {
     }
     let (mut table, mut record, mut space) =
         (before.clone(), Record::from_numbers(&case.record), vec![FILLER; case.room]);
-    let (number, count) = rules::interpret(&case.line, case.switch, &mut record, &mut table, &mut space);
+    let Told { number, count, work } = rules::interpret(&case.line, case.switch, &mut record, &mut table, &mut space);
     let pairs = table.iter().copied().enumerate().zip(before);
     let changes = pairs.filter(|(after, before)| after.1 != *before).map(|(after, _)| after).collect();
     let rest = space.split_off(COMMAND_LENGTH * count);
     let kept = rest.iter().all(|&number| number == FILLER);
-    Answer { number: u64::from(number), count, record: record.to_numbers(), changes, output: space, kept }
+    Answer { number: u64::from(number), count, work, record: record.to_numbers(), changes, output: space, kept }
 }
 
 // ---------------------------------------------------------------- Writing
@@ -78,7 +79,8 @@ impl Answer {
     pub fn text(&self) -> String {
         let (record, changes) = (numbers(&self.record), listed(self.changes.iter().copied(), ':'));
         let (output, rest) = (numbers(&self.output), if self.kept { "ok" } else { "changed" });
-        format!("{} {} {record} {} {} {rest}", self.number, self.count, or_dash(&changes), or_dash(&output))
+        let told = format!("{} {} {}", self.number, self.count, self.work);
+        format!("{told} {record} {} {} {rest}", or_dash(&changes), or_dash(&output))
     }
 }
 
@@ -106,12 +108,13 @@ pub fn case_of(text: &[u8]) -> Option<Case> {
 /// An answer from its text, likewise.
 pub fn answer_of(text: &[u8]) -> Option<Answer> {
     let columns: Vec<&str> = std::str::from_utf8(text).ok()?.split(' ').collect();
-    let [number, count, record, changes, output, rest] = columns[..] else {
+    let [number, count, work, record, changes, output, rest] = columns[..] else {
         return None;
     };
     let answer = Answer {
         number: number.parse().ok()?,
         count: count.parse().ok()?,
+        work: work.parse().ok()?,
         record: numbers_of(record)?.try_into().ok()?,
         changes: changes_of(changes)?,
         output: if output == "-" { Vec::new() } else { numbers_of(output)? },

@@ -524,6 +524,74 @@ const ENTRIES: &[(&str, &str, usize, i64)] = &[
     ("", "#3 = 15", 3, 150_000),
 ];
 
+/// Lines worked before, a line, and the work it reports: "one for each value and each operator in its derivation".
+const WORKS: &[(&str, &str, usize)] = &[
+    ("", "", 0),
+    ("", "N5 (a comment [1+1])", 0),
+    ("", "G21", 1),
+    ("", "S[1]", 2),
+    ("", "SABS[1]", 2),
+    ("#1=1", "S#1", 2),
+    ("", "S[1+2]", 4),
+    ("", "S[1+2*3]", 6),
+    ("", "S[[1]+ROUND[2]]", 6),
+    ("#1=1", "S##1", 3),
+    ("#1=1", "S#[1]", 3),
+    ("", "#1=2", 2),
+    ("", "#[1]=2", 3),
+    ("#1=1", "##1=2", 3),
+    ("#1=1", "#1=#1", 3),
+    ("", "#1=2 #3=[4-5] G21", 8),
+    ("", "g0x +0. 12 34y 7", 3),
+    // Refused and skipped lines report none.
+    ("", "S[1/0]", 0),
+    ("", "X[1", 0),
+    ("", "G59.4", 0),
+];
+
+/// Nests: an opening, how often its last piece is repeated, what stands within, what closes each piece, the rest of
+/// the line, and its number. Entry 1 is 1.
+const NESTS: &[(&str, usize, &str, &str, &str, u8)] = &[
+    // 24 passes.
+    ("S[", 24, "1", "]", "", 0),
+    ("S[", 25, "1", "]", "", 16),
+    ("S#", 24, "1", "", "", 0),
+    ("S#", 25, "1", "", "", 16),
+    ("SABS[", 24, "1", "]", "", 0),
+    ("SABS[", 25, "1", "]", "", 16),
+    ("S#[", 12, "1", "]", "", 0),
+    ("S#[", 13, "1", "]", "", 16),
+    ("S#[", 12, "#1", "]", "", 16),
+    // A setting's first `#` aside, and both of its sides.
+    ("##", 24, "1", "", "=2", 0),
+    ("##", 25, "1", "", "=2", 16),
+    ("#2=[", 24, "1", "]", "", 0),
+    ("#2=[", 25, "1", "]", "", 16),
+    // After 3, before 5 to 7, anywhere on the line.
+    ("S[", 25, "1", "]", " X", 3),
+    ("S[", 25, "1", "]", "]", 3),
+    ("S[", 25, "1/0", "]", "", 16),
+    ("S[", 25, "1.00001", "]", "", 16),
+    ("X100000 S[", 25, "1", "]", "", 16),
+    ("#0=1 S[", 25, "1", "]", "", 16),
+    ("S[", 25, "1", "]", " X[1/0] G99", 16),
+    ("S[", 24, "1/0", "]", "", 6),
+    ("S[", 26, "100000", "]", "", 16),
+    ("S[", 127, "1", "]", "", 16),
+    ("S#", 254, "1", "", "", 16),
+    ("S[", 128, "", "", "", 3),
+];
+
+/// A nest as a line. What is repeated is the opening's last byte, but ABS and # go with their brackets.
+fn nest_line((opening, times, within, closing, rest): (&str, usize, &str, &str, &str)) -> String {
+    let (first, again) = match opening {
+        "SABS[" => ("S", "ABS["),
+        "S#[" => ("S", "#["),
+        _ => opening.split_at(opening.len() - 1),
+    };
+    [first, &again.repeat(times), within, &closing.repeat(times), rest].concat()
+}
+
 /// Standard input and the frames it gives.
 const FRAMES: &[(&str, &str)] = &[
     (
@@ -558,7 +626,7 @@ fn value_holds((text, expected): &(&str, Result<i64, u8>)) -> bool {
     match rules::read(format!("X{text}").as_bytes(), &table) {
         Reading::WrongForm => false,
         Reading::Stopped(number) => *expected == Err(number),
-        Reading::Read { words, settings } => {
+        Reading::Read { words, settings, .. } => {
             settings.is_empty() && expected.is_ok_and(|value| words == [(b'X', value)])
         }
     }
@@ -579,6 +647,7 @@ enum Expected {
     Commands(&'static [[i64; 8]]),
     Field(usize, i64),
     Entry(usize, i64),
+    Work(usize),
 }
 
 /// One example: the table it stands in, its case, and what the case must give.
@@ -590,7 +659,7 @@ struct Example {
 
 impl Example {
     fn holds(&self, answer: &Answer) -> bool {
-        let Answer { number, count, ref record, ref changes, ref output, kept } = *answer;
+        let Answer { number, count, work, ref record, ref changes, ref output, kept } = *answer;
         let unchanged = *record == self.case.record && changes.is_empty() && output.is_empty();
         let entry_after = |number: usize| {
             let held = changes.iter().chain(self.case.changes.iter()).find(|change| change.0 == number);
@@ -602,9 +671,22 @@ impl Example {
             Expected::Commands(commands) => number == 0 && *output == commands.concat(),
             Expected::Field(place, wanted) => record[place] == wanted,
             Expected::Entry(number, wanted) => entry_after(number) == wanted,
+            Expected::Work(wanted) => work == wanted,
         };
-        as_told && kept && output.len() == 8 * count && (number == 0 || unchanged)
+        let bounded = work <= bare_bytes(&self.case.line) && (number == 0 || work == 0);
+        as_told && bounded && kept && output.len() == 8 * count && (number == 0 || unchanged)
     }
+}
+
+/// "the line's bytes that are neither blank nor in a comment".
+fn bare_bytes(line: &[u8]) -> usize {
+    let (mut bare, mut inside) = (0, false);
+    for &byte in line {
+        inside |= byte == b'(';
+        bare += usize::from(!inside && byte != b' ' && byte != b'\t');
+        inside &= byte != b')';
+    }
+    bare
 }
 
 /// A line for the fresh record and an all-zero table.
@@ -719,6 +801,13 @@ fn examples() -> Vec<Example> {
     }
     for &(before, line, number, value) in ENTRIES {
         all.extend(session("entry", before, line, Expected::Entry(number, value)));
+    }
+    for &(before, line, work) in WORKS {
+        all.extend(session("work", before, line, Expected::Work(work)));
+    }
+    for &(opening, times, within, closing, rest, number) in NESTS {
+        let line = nest_line((opening, times, within, closing, rest));
+        all.extend(session("nest", "#1=1", &line, Expected::Number(number)));
     }
     for line in five_items_in_every_order() {
         all.extend(session("order", "", &line, Expected::Number(10)));

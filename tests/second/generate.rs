@@ -515,6 +515,71 @@ fn deep(dice: &mut Dice, draft: &mut Draft) {
     draft.items.push(item);
 }
 
+/// How deep nests go: about the limit of 24.
+const NESTINGS: [usize; 9] = [22, 23, 24, 24, 24, 25, 25, 25, 26];
+/// What can stand around a value in a nest, before and after it; entry 1 of the table is 1, and none of these makes
+/// another value of 1.
+const BRACKETS: &[(&[u8], &[u8])] = &[(b"[", b"]")];
+const HASHES: &[(&[u8], &[u8])] = &[(b"#", b"")];
+const FUNCTIONS: &[(&[u8], &[u8])] = &[(b"ABS[", b"]"), (b"FIX[", b"]"), (b"FUP[", b"]"), (b"ROUND[", b"]")];
+const OPERATIONS: &[(&[u8], &[u8])] =
+    &[(b"[0+", b"]"), (b"[", b"*1]"), (b"[1 MOD 2*", b"]"), (b"[", b"AND#1]"), (b"[[1]*", b"]"), (b"[", b"-#[1]+1]")];
+const MIXED: &[(&[u8], &[u8])] =
+    &[(b"[", b"]"), (b"#", b""), (b"#[", b"]"), (b"ABS[", b"]"), (b"#FIX[", b"]"), (b"[1*", b"]"), (b"[", b"+0]")];
+
+/// Nests of brackets, hashes, functions and operations about as deep as the limit, in words and on both sides of
+/// settings, alone or two beside each other; sometimes a bracket is missing or one too many, and sometimes one of
+/// numbers 5 to 7 stands in the middle or on the same line.
+fn nest(dice: &mut Dice, draft: &mut Draft) {
+    if draft.changes.iter().all(|change| change.0 != 1) {
+        draft.changes.push((1, 10_000));
+    }
+    let mut value = nested(dice);
+    if dice.one_in(4) && value.len() < 90 {
+        let beside = nested(dice);
+        let between = dice.pick(&[&b"+"[..], b"*", b"MOD", b"AND"]);
+        value = joined(&[b"[", &value, between, &beside, b"]"]);
+    }
+    if dice.one_in(8) {
+        let place = dice.below(value.len());
+        if dice.one_in(2) {
+            value.remove(place);
+        } else {
+            value.insert(place, dice.pick(b"[]#"));
+        }
+    }
+    draft.items.push(match dice.below(8) {
+        0 | 1 => joined(&[b"#", &value, b"=7"]),
+        2 | 3 => joined(&[b"#2=", &value]),
+        4 => joined(&[b"##1=", &value]),
+        5 => joined(&[b"#1=[", &in_a_row(dice), b"]"]),
+        _ => joined(&[&[dice.pick(b"XYZFS")], &value]),
+    });
+    if dice.one_in(4) {
+        draft.items.push(stopped_item(dice));
+    }
+}
+
+/// A value in a nest; a `#` and a `[` in one piece are two levels, so a nest may be one deeper than picked.
+fn nested(dice: &mut Dice) -> Vec<u8> {
+    let around = dice.pick(&[BRACKETS, HASHES, FUNCTIONS, OPERATIONS, MIXED, MIXED]);
+    let (mut before, mut after, mut levels) = (Vec::new(), Vec::new(), dice.pick(&NESTINGS));
+    while levels > 0 {
+        let (opening, closing) = dice.pick(around);
+        before.extend(opening);
+        after.splice(0..0, closing.iter().copied());
+        levels = levels.saturating_sub(opening.iter().filter(|byte| b"[#".contains(byte)).count().min(2));
+    }
+    let core = if dice.one_in(8) { dice.pick(&[&b"0"[..], b"5000", b"100000", b"1.00001"]) } else { b"1" };
+    joined(&[&before, core, &after])
+}
+
+/// More brackets and hashes than the limit, but in a row: none of them is around another.
+fn in_a_row(dice: &mut Dice) -> Vec<u8> {
+    let values: Vec<&[u8]> = (0..20 + dice.below(10)).map(|_| dice.pick(&[&b"[1]"[..], b"#1", b"#[1]"])).collect();
+    values.join(&b"*"[..])
+}
+
 /// Changes a draft so that a later number is likely to apply.
 fn disturb(dice: &mut Dice, draft: &mut Draft) {
     let extra = any_word(dice);
@@ -575,6 +640,9 @@ fn draft(dice: &mut Dice, record: Record) -> Draft {
     }
     if dice.one_in(8) {
         settings(dice, &mut draft);
+    }
+    if dice.one_in(24) {
+        nest(dice, &mut draft);
     }
     if dice.one_in(5) {
         disturb(dice, &mut draft);
@@ -931,7 +999,7 @@ fn commands(line: &[u8], switch: bool, record: &Record, changes: &[(usize, i64)]
     for &(number, value) in changes {
         table[number] = value;
     }
-    rules::interpret(line, switch, &mut record.clone(), &mut table, &mut [0; 128]).1
+    rules::interpret(line, switch, &mut record.clone(), &mut table, &mut [0; 128]).count
 }
 
 /// A session as it is written down: the bytes so far and the state they lead to.
@@ -944,7 +1012,7 @@ struct Session {
 impl Session {
     /// Adds a line if it is accepted, or anyway.
     fn add(&mut self, dice: &mut Dice, line: &[u8], anyway: bool) -> bool {
-        let number = rules::interpret(line, false, &mut self.record, &mut self.table, &mut [0; 128]).0;
+        let number = rules::interpret(line, false, &mut self.record, &mut self.table, &mut [0; 128]).number;
         if number == 0 || anyway {
             self.bytes.extend(line);
             self.bytes.extend(dice.pick(&[&b"\n"[..], b"\n", b"\n", b"\n", b"\r\n"]));

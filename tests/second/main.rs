@@ -8,7 +8,7 @@ mod rules;
 
 use cases::listed;
 use generate::Dice;
-use rules::{Reading, Record, COMMAND_LENGTH, LONGEST_LINE, TABLE_LENGTH};
+use rules::{Reading, Record, Told, COMMAND_LENGTH, LONGEST_LINE, TABLE_LENGTH};
 use std::fs;
 use std::io::{self, BufRead, BufWriter, Error, ErrorKind, Read, Write};
 use std::path::Path;
@@ -81,7 +81,7 @@ fn each_line(mut input: impl BufRead, mut work: impl FnMut(&[u8]) -> io::Result<
 fn frames(mut input: impl BufRead, out: &mut impl Write, after_each: &str) -> io::Result<()> {
     let (mut record, mut table, mut space) = (Record::fresh(), vec![0; TABLE_LENGTH], vec![0; 8_000]);
     while let Some(line) = next_line(&mut input)? {
-        let (number, count) = rules::interpret(&line, false, &mut record, &mut table, &mut space);
+        let Told { number, count, .. } = rules::interpret(&line, false, &mut record, &mut table, &mut space);
         if number != rules::ACCEPTED && number != rules::SKIPPED {
             // "A refusal writes FF and its number in ten hexadecimal digits, and ends the run".
             return write!(out, "FF{number:010X}\n{after_each}");
@@ -153,7 +153,7 @@ fn readings(input: impl BufRead, out: &mut impl Write) -> io::Result<()> {
         match rules::read(line, &table) {
             Reading::WrongForm => writeln!(out, "3"),
             Reading::Stopped(number) => writeln!(out, "stopped {number}"),
-            Reading::Read { words, settings } => {
+            Reading::Read { words, settings, .. } => {
                 let words = listed(words.iter().map(|&(letter, value)| (char::from(letter), value)), '=');
                 let settings = listed(settings, '=');
                 writeln!(out, "words{}{words} settings{}{settings}", gap(&words), gap(&settings))
@@ -228,14 +228,14 @@ fn tally(input: impl BufRead, out: &mut impl Write) -> io::Result<bool> {
         }
         Ok(())
     })?;
-    let numbers = by_number.iter().enumerate().filter(|&(number, _)| number <= 15 || number == 100);
+    let numbers = by_number.iter().enumerate().filter(|&(number, _)| number <= 16 || number == 100);
     let numbers: Vec<String> = numbers.map(|(number, times)| format!("{number}:{times}")).collect();
     let kinds: Vec<String> = (1..12).map(|kind| format!("{kind}:{}", by_kind[kind])).collect();
     writeln!(out, "numbers {}", numbers.join(" "))?;
     writeln!(out, "kinds {}", kinds.join(" "))?;
     let often = |times: &u64| *times >= LEAST;
     // "4 is kept in the list and shown never to occur".
-    let given = by_number[..=15].iter().enumerate().filter(|&(number, _)| number != 4);
+    let given = by_number[..=16].iter().enumerate().filter(|&(number, _)| number != 4);
     let seen = given.map(|(_, times)| times).all(often) && often(&by_number[100]) && by_kind[1..].iter().all(often);
     let seen = seen && by_number[4] == 0;
     if !seen || unread > 0 {

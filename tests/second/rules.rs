@@ -1,4 +1,5 @@
-//! The rules of document 01, "Build requirements and exact rules", one sentence at a time.
+//! The rules of document 01, "Build requirements and exact rules", one sentence at a time, with the requests of
+//! document 02 that have landed; a sentence of theirs is quoted with its ticket.
 //! The order of this file is the order of the document: what the control takes, grammar,
 //! arithmetic, codes, the words a line needs, the order within an accepted line, the numbers.
 //!
@@ -17,6 +18,8 @@ pub const REACH: i64 = 1_000_000_000;
 pub const LONGEST_LINE: usize = 256;
 /// "a table of 5,000 parameter values (entry 0 unused)".
 pub const TABLE_LENGTH: usize = 5_000;
+/// Ticket 12: "Nesting, of `[` and `#` one within another in the derivation .., is limited to 24."
+pub const DEEPEST_NESTING: usize = 24;
 /// "Acceptance carries number 0 and a skip 100."
 pub const ACCEPTED: u8 = 0;
 pub const SKIPPED: u8 = 100;
@@ -211,11 +214,15 @@ enum Node {
 }
 
 /// A line's derivation: the nodes in working order, then words and settings in the order written,
-/// each naming the nodes of its values.
+/// each naming the nodes of its values; how much work it is, and how deep it nests.
 struct Derivation {
     nodes: Vec<Node>,
     words: Vec<(u8, usize)>,
     settings: Vec<(usize, usize)>,
+    /// Ticket 12: "one for each value and each operator in its derivation".
+    work: usize,
+    /// Ticket 12: the most `[` and `#` "one within another in the derivation (a setting's first `#` aside)".
+    nesting: usize,
 }
 
 /// What is begun and not finished inside a value.
@@ -233,7 +240,7 @@ struct Reader {
 
 /// "What remains must be derived": the derivation of a line, or none.
 fn derive(line: &[u8]) -> Option<Derivation> {
-    let found = Derivation { nodes: Vec::new(), words: Vec::new(), settings: Vec::new() };
+    let found = Derivation { nodes: Vec::new(), words: Vec::new(), settings: Vec::new(), work: 0, nesting: 0 };
     let mut reader = Reader { remains: what_remains(line)?, place: 0, found };
     reader.line()?;
     Some(reader.found)
@@ -287,7 +294,9 @@ impl Reader {
         let mut begun = Vec::new();
         loop {
             self.begin(&mut begun);
+            self.nest(&begun);
             let number = self.number()?;
+            self.found.work += 1;
             let mut done = self.end_hashes(&mut begun, number);
             while !begun.is_empty() && self.take(b"]") {
                 done = self.end_bracket(&mut begun, done);
@@ -296,6 +305,7 @@ impl Reader {
                 return Some(done);
             }
             let operator = self.choice(&OPERATORS)?;
+            self.found.work += 1;
             let left = self.end_operations(&mut begun, done, rank(operator));
             begun.push(Begun::Operation(operator, left));
         }
@@ -316,12 +326,20 @@ impl Reader {
         }
     }
 
-    /// A value just finished finishes each `#` right before it.
+    /// Every `#` and `[` that is begun and not finished stands around what comes next. (The `[` of a function is
+    /// its expression's; a setting's first `#` is never begun here.)
+    fn nest(&mut self, begun: &[Begun]) {
+        let around = begun.iter().filter(|begun| !matches!(begun, Begun::Operation(..))).count();
+        self.found.nesting = self.found.nesting.max(around);
+    }
+
+    /// A value just finished finishes each `#` right before it; that `#` and its value are one value more.
     fn end_hashes(&mut self, begun: &mut Vec<Begun>, mut done: usize) -> usize {
         while let Some(Begun::Hash) = begun.last() {
             begun.pop();
             let number = self.note(Node::Judged(done));
             done = self.note(Node::Entry(number));
+            self.found.work += 1;
         }
         done
     }
@@ -339,9 +357,11 @@ impl Reader {
         done
     }
 
-    /// A `]` finishes the operations since its `[`, then the function before it, then hashes.
+    /// A `]` finishes the operations since its `[`, then the function before it, then hashes. The expression, or
+    /// the function with it, is one value more.
     fn end_bracket(&mut self, begun: &mut Vec<Begun>, done: usize) -> usize {
         let mut done = self.end_operations(begun, done, 0);
+        self.found.work += 1;
         if let Some(Begun::Bracket(Some(function))) = begun.pop() {
             done = self.note(Node::Applied(function, done));
         }
@@ -424,19 +444,23 @@ pub fn form(line: &[u8]) -> u8 {
 
 // ---------------------------------------------------------------- Arithmetic
 
-/// What reading a line gives: no derivation, the first of numbers 5 to 7, or "the tree's words and
-/// settings in order, with their values".
+/// What reading a line gives: no derivation, number 16 or the first of numbers 5 to 7, or "the tree's words and
+/// settings in order, with their values", and the work it was.
 pub enum Reading {
     WrongForm,
     Stopped(u8),
-    Read { words: Vec<(u8, i64)>, settings: Vec<(usize, i64)> },
+    Read { words: Vec<(u8, i64)>, settings: Vec<(usize, i64)>, work: usize },
 }
 
-/// Reads a line of any length.
+/// Reads a line of any length. Ticket 12: "16 for deeper nesting anywhere on the line, checked after 3 and before
+/// 4".
 pub fn read(line: &[u8], table: &[i64]) -> Reading {
     let Some(derivation) = derive(line) else {
         return Reading::WrongForm;
     };
+    if derivation.nesting > DEEPEST_NESTING {
+        return Reading::Stopped(16);
+    }
     match work_out(&derivation.nodes, table) {
         Err(number) => Reading::Stopped(number),
         Ok(values) => Reading::Read {
@@ -446,6 +470,7 @@ pub fn read(line: &[u8], table: &[i64]) -> Reading {
                 .iter()
                 .map(|&(number, node)| (values[number] as usize, values[node]))
                 .collect(),
+            work: derivation.work,
         },
     }
 }
@@ -733,12 +758,12 @@ fn forbidden_move(content: &Content, record: &Record) -> bool {
 // ---------------------------------------------------------------- Order within an accepted line
 
 /// What a line makes of the record, and the commands it gives.
-struct Work {
+struct Effect {
     record: Record,
     commands: Vec<[i64; COMMAND_LENGTH]>,
 }
 
-impl Work {
+impl Effect {
     /// "Commands are eight numbers each, the kind first, unused ones 0".
     fn give(&mut self, kind: i64, fields: &[i64]) {
         let mut command = [0; COMMAND_LENGTH];
@@ -946,14 +971,15 @@ fn too_unequal(a: u128, b: u128, slack: u128) -> bool {
 
 // ---------------------------------------------------------------- Numbers a refused line carries
 
-/// One line's work and settings, or the first number that applies (a skip is 100).
-fn judge(
-    line: &[u8],
-    switch: bool,
-    record: &Record,
-    table: &[i64],
-    room: usize,
-) -> Result<(Work, Vec<(usize, i64)>), u8> {
+/// What an accepted line does, the settings it makes, and the work it was.
+struct Accepted {
+    effect: Effect,
+    settings: Vec<(usize, i64)>,
+    work: usize,
+}
+
+/// An accepted line's, or the first number that applies (a skip is 100).
+fn judge(line: &[u8], switch: bool, record: &Record, table: &[i64], room: usize) -> Result<Accepted, u8> {
     if !in_order(record, table) {
         return Err(1);
     }
@@ -963,37 +989,37 @@ fn judge(
     if switch && first_non_blank(line) == Some(b'/') {
         return Err(SKIPPED);
     }
-    let (words, settings) = match read(line, table) {
+    let (words, settings, work) = match read(line, table) {
         Reading::WrongForm => return Err(3),
         Reading::Stopped(number) => return Err(number),
-        Reading::Read { words, settings } => (words, settings),
+        Reading::Read { words, settings, work } => (words, settings, work),
     };
-    let work = carry_out(&Content::of(&words)?, record)?;
-    if room < COMMAND_LENGTH * work.commands.len() {
+    let effect = carry_out(&Content::of(&words)?, record)?;
+    if room < COMMAND_LENGTH * effect.commands.len() {
         return Err(15);
     }
-    Ok((work, settings))
+    Ok(Accepted { effect, settings, work })
 }
 
 /// Numbers 10 to 14, and the order within an accepted line. "Numbers 10 to 14 read modes, units and
 /// feed as the order above has set them by then."
-fn carry_out(content: &Content, record: &Record) -> Result<Work, u8> {
+fn carry_out(content: &Content, record: &Record) -> Result<Effect, u8> {
     if needed_missing(content, record) || idle_word(content, record) {
         return Err(10);
     }
     if wrong_value(content) {
         return Err(11);
     }
-    let mut work = Work { record: record.clone(), commands: Vec::new() };
-    work.before_modes(content);
-    work.modes(content);
-    if forbidden_move(content, &work.record) {
+    let mut effect = Effect { record: record.clone(), commands: Vec::new() };
+    effect.before_modes(content);
+    effect.modes(content);
+    if forbidden_move(content, &effect.record) {
         return Err(12);
     }
-    work.origins_and_offset(content)?;
-    work.motion(content)?;
-    work.stop(content);
-    Ok(work)
+    effect.origins_and_offset(content)?;
+    effect.motion(content)?;
+    effect.stop(content);
+    Ok(effect)
 }
 
 /// "a line whose first non-blank byte is `/`".
@@ -1001,21 +1027,30 @@ fn first_non_blank(line: &[u8]) -> Option<u8> {
     line.iter().copied().find(|&byte| byte != b' ' && byte != b'\t')
 }
 
-/// One line: its number and how many commands it wrote. "Every refusal and skip returns count 0 and
-/// leaves record, table and output unchanged; acceptance leaves output past the commands unchanged."
-pub fn interpret(line: &[u8], switch: bool, record: &mut Record, table: &mut [i64], out: &mut [i64]) -> (u8, usize) {
+/// What a line is answered with: its number, how many commands it wrote, and the values and operations worked out.
+#[derive(Clone, Copy, PartialEq, Eq)]
+pub struct Told {
+    pub number: u8,
+    pub count: usize,
+    pub work: usize,
+}
+
+/// One line. "Every refusal and skip returns count 0 and leaves record, table and output unchanged; acceptance
+/// leaves output past the commands unchanged." Ticket 12: "Every accepted line reports the values and operations
+/// worked out ..; others report 0."
+pub fn interpret(line: &[u8], switch: bool, record: &mut Record, table: &mut [i64], out: &mut [i64]) -> Told {
     match judge(line, switch, record, table, out.len()) {
-        Err(number) => (number, 0),
-        Ok((work, settings)) => {
-            *record = work.record;
+        Err(number) => Told { number, count: 0, work: 0 },
+        Ok(Accepted { effect, settings, work }) => {
+            *record = effect.record;
             // "settings apply afterwards, in order, the last winning."
             for (number, value) in settings {
                 table[number] = value;
             }
-            for (place, command) in out.chunks_exact_mut(COMMAND_LENGTH).zip(&work.commands) {
+            for (place, command) in out.chunks_exact_mut(COMMAND_LENGTH).zip(&effect.commands) {
                 place.copy_from_slice(command);
             }
-            (ACCEPTED, work.commands.len())
+            Told { number: ACCEPTED, count: effect.commands.len(), work }
         }
     }
 }

@@ -1,6 +1,6 @@
 -- Whoever works a line from what the reader leaves keeps the promise.
 -- Assumes nothing.
-use mathlib.Core.Path.{_≡_, refl, ap, _∙_, sym}
+use mathlib.Core.Path.{_≡_, refl, ap, ap₂, _∙_, sym}
 use mathlib.Core.Bool.{Bool, true, false, cond, not, _&&_, _||_, or-true}
 use mathlib.Core.List.{List, [], _∷_, _++_, map}
 use mathlib.Core.Option.{Option, none, some}
@@ -14,7 +14,7 @@ use borrow.Author.Tests.{le-ltb, lt-ltb, eq-eqb, ne-eqb}
 use Rattle.laws.proofs.Bools.{T-eq, not-eq}
 use Rattle.grammar.specs.Grammar.{Line, line as lineOf, letter}
 use Rattle.grammar.specs.Derivation.{Derives}
-use Rattle.grammar.specs.Working.{Took, end, stopped, took, lineEntries}
+use Rattle.grammar.specs.Working.{Took, end, stopped, took, Contents, contents}
 use Rattle.grammar.proofs.Lengths.{few}
 use Rattle.rules.specs.Numbers.{inRange}
 use Rattle.rules.specs.Meaning.{Entry, wordIs, settingIs, Said, Setting, arithmetic, reading, stoppedBy, words, settings}
@@ -22,19 +22,19 @@ use Rattle.rules.specs.Block.{blockOf}
 use Rattle.rules.specs.Reach.{inOrder}
 use Rattle.rules.specs.Steps.{ready}
 use Rattle.rules.specs.Refusals.{Case, _when_, first, refusals}
-use Rattle.rules.specs.Promise.{After, Right, after, answer, answerTo, leaving, byNumber, disorder, slashed}
+use Rattle.rules.specs.Promise.{After, Right, after, answer, answerTo, leaving, worth, byNumber, disorder, slashed, tooDeep}
 use Rattle.rules.proofs.Demands.{lacking}
 use Rattle.rules.specs.declared.Block.{Block}
 use Rattle.rules.specs.declared.Record.{Record}
-use Rattle.rules.specs.declared.Outcome.{Outcome}
+use Rattle.rules.specs.declared.Report.{Report}
 use Rattle.rules.specs.declared.Answer.{Answer}
 use Rattle.rules.specs.declared.Answer.the-variants.{Accepted, Refused, Skipped}
-use Rattle.reader.specs.Reading.{Spaces, stored, stopOf, outcome, Left, leaves, Reads}
+use Rattle.reader.specs.Reading.{Spaces, stored, stopOf, outcome, Left, leftFor, leaves, Reads}
 use Rattle.reader.specs.declared.line.Reading.{Reading}
-use Rattle.reader.specs.declared.line.Reading.the-variants.{Read, Stopped, Wrong, TooLong}
+use Rattle.reader.specs.declared.line.Reading.the-variants.{Read, Stopped, Deep, Wrong, TooLong}
 use Rattle.summary.specs.Words.{said, lettered}
 use Rattle.block.specs.Execution.{allInRange, Done, done, doneBy, executed, execution}
-use Rattle.control.specs.Worked.{judgedAs, settingsOf, tableAfter, finished, workedBy, worked, unread, lentAfter, Lends}
+use Rattle.control.specs.Worked.{judgedAs, unchanged, settingsOf, tableAfter, workDone, finished, workedBy, worked, unread, lentAfter, Lends}
 use Rattle.rules.proofs.Sound.{SoundTook, entries-sound}
 use Rattle.reader.proofs.Demand3.{line-counts}
 use Rattle.control.proofs.Words.{entries-lettered}
@@ -87,15 +87,15 @@ stop-sound (took (wordIs b v) t) s k h = stop-sound t (s .1) k h
 stop-sound (took (settingIs n v) t) s k h = stop-sound t s k h
 
 -- ---- the numbers 8 to 15
-finished-by : (n : ℕ) (e : Took Entry) (b : Block) (r : Record) (table out : List ℤ) → (n ≡ 100 → ⊥) → finished (doneBy n b r out) (settings e) table ≡ byNumber n e b r table out
+finished-by : (n : ℕ) (e : Contents Entry) (b : Block) (r : Record) (table out : List ℤ) → (n ≡ 100 → ⊥) → finished (e .work) (doneBy n b r out) (settings (e .entries)) table ≡ byNumber n e b r table out
 finished-by n e b r table out h = rw (ne-eqb n 100 h) (go (eqb n 0))
   where
-    go : (c : Bool) → finished (cond c (doneBy 0 b r out) (done (Refused n) r out)) (settings e) table ≡ cond c (byNumber 0 e b r table out) (leaving (cond c (Accepted 0) (Refused n)) r table out)
+    go : (c : Bool) → finished (e .work) (cond c (doneBy 0 b r out) (done (Refused n) r out)) (settings (e .entries)) table ≡ cond c (byNumber 0 e b r table out) (leaving (cond c (Accepted 0) (Refused n)) r table out)
     go true = refl
     go false = refl
 
 -- the numbers 5 to 7
-stopped-by : (k : ℕ) → 5 ≤ k → k ≤ 7 → (cs : List Case) (e : Took Entry) (b : Block) (r : Record) (table out : List ℤ) →
+stopped-by : (k : ℕ) → 5 ≤ k → k ≤ 7 → (cs : List Case) (e : Contents Entry) (b : Block) (r : Record) (table out : List ℤ) →
     byNumber (first ((4 when eqb k 4) ∷ (5 when eqb k 5) ∷ (6 when eqb k 6) ∷ (7 when eqb k 7) ∷ cs)) e b r table out ≡ leaving (Refused k) r table out
 stopped-by zero l h cs e b r table out = absurd (omega arith)
 stopped-by (suc zero) l h cs e b r table out = absurd (omega arith)
@@ -113,7 +113,7 @@ by-test e t = sym e ∙ t
 
 -- ---- the numbers before the form is read
 module _ (line : List ℕ) (switch : Bool) (r : Record) (table out : List ℤ) where
-  by-early : {x : After} → ((e : Option (Took Entry)) → answerTo e line switch r table out ≡ x) → Right line switch r table out x
+  by-early : {x : After} → ((e : Option (Contents Entry)) → answerTo e line switch r table out ≡ x) → Right line switch r table out x
   by-early h = record { byTree = λ t d. sym (h (reading table (some t))); byNone = λ _. sym (h none) }
 
   kept-1 : disorder r table ≡ true → Right line switch r table out (leaving (Refused 1) r table out)
@@ -121,7 +121,7 @@ module _ (line : List ℕ) (switch : Bool) (r : Record) (table out : List ℤ) w
   kept-1 d = by-early (λ e. rw d)
 
   -- a table of another length, and a record out of order
-  pub kept-table : {o : Outcome} → (length table ≡ 5000 → ⊥) → o ≡ record { answer = Refused 1; rec = r } → Right line switch r table out (after o table out)
+  pub kept-table : {o : Report} → (length table ≡ 5000 → ⊥) → o ≡ unchanged (Refused 1) r → Right line switch r table out (after o table out)
   unfolding disorder
   kept-table z h = rw h (kept-1 (rw (ne-eqb (length table) 5000 z)))
 
@@ -134,26 +134,27 @@ module _ (line : List ℕ) (switch : Bool) (r : Record) (table out : List ℤ) w
   no-disorder z q = rw (eq-eqb (length table) 5000 z, q)
 
   -- an answer that is right where the record is in order
-  kept-early : (a : Answer) → (inOrder r ≡ true → Right line switch r table out (leaving a r table out)) → {o : Outcome} → o ≡ record { answer = judgedAs a r; rec = r } → Right line switch r table out (after o table out)
+  kept-early : (a : Answer) → (inOrder r ≡ true → Right line switch r table out (leaving a r table out)) → {o : Report} → o ≡ unchanged (judgedAs a r) r → Right line switch r table out (after o table out)
   kept-early a h e = rw e (go (inOrder r) refl)
     where
       go : (b : Bool) → inOrder r ≡ b → Right line switch r table out (leaving (cond b a (Refused 1)) r table out)
       go true q = h q
       go false q = kept-1 (is-disorder q)
 
-  pub kept-2 : {o : Outcome} → length table ≡ 5000 → 256 < length line → o ≡ record { answer = judgedAs (Refused 2) r; rec = r } → Right line switch r table out (after o table out)
+  pub kept-2 : {o : Report} → length table ≡ 5000 → 256 < length line → o ≡ unchanged (judgedAs (Refused 2) r) r → Right line switch r table out (after o table out)
   unfolding answerTo
   kept-2 z l h = kept-early (Refused 2) (λ q. by-early (λ e. rw (no-disorder z q, lt-ltb 256 (length line) l))) h
 
-  pub kept-skipped : {o : Outcome} → length table ≡ 5000 → length line ≤ 256 → (switch && slashed line) ≡ true → o ≡ record { answer = judgedAs Skipped r; rec = r } → Right line switch r table out (after o table out)
+  pub kept-skipped : {o : Report} → length table ≡ 5000 → length line ≤ 256 → (switch && slashed line) ≡ true → o ≡ unchanged (judgedAs Skipped r) r → Right line switch r table out (after o table out)
   unfolding answerTo
   kept-skipped z l s h = kept-early Skipped (λ q. by-early (λ e. rw (no-disorder z q, le-ltb 256 (length line) l, s))) h
 
   -- whatever was read, a record out of order is number 1
   out-of-order : inOrder r ≡ false → (a : Reading) (lent : Spaces) → workedBy a lent r table out ≡ leaving (Refused 1) r table out
   unfolding execution
-  out-of-order q (Read w n) lent = rw q
+  out-of-order q (Read w n k) lent = rw q
   out-of-order q (Stopped k) lent = rw q
+  out-of-order q Deep lent = rw q
   out-of-order q (Wrong p) lent = rw q
   out-of-order q TooLong lent = rw q
 
@@ -167,28 +168,35 @@ module _ (line : List ℕ) (switch : Bool) (r : Record) (table out : List ℤ) (
   underived-answer = rw (ordered, le-ltb 256 (length line) short, unskipped)
 
   -- a reading that was stopped
-  stopped-answer : (e : Took Entry) → SoundTook e → (k : ℕ) → stopOf e ≡ some k → answerTo (some e) line switch r table out ≡ leaving (Refused k) r table out
+  stopped-answer : (c : Contents Entry) → tooDeep c ≡ false → SoundTook (c .entries) → (k : ℕ) → stopOf (c .entries) ≡ some k → answerTo (some c) line switch r table out ≡ leaving (Refused k) r table out
   unfolding answerTo
-  stopped-answer e s k h =
-      let b = blockOf (words e) in
-      let n = stop-sound e s k h in
-      rw (ordered, le-ltb 256 (length line) short, unskipped, stop-is e k h) (stopped-by k (n .0) (n .1) (refusals (words e) b (ready b r) (length out)) e b r table out)
+  stopped-answer c d s k h =
+      let ws = words (c .entries) in
+      let b = blockOf ws in
+      let n = stop-sound (c .entries) s k h in
+      rw (ordered, le-ltb 256 (length line) short, unskipped, d, stop-is (c .entries) k h) (stopped-by k (n .0) (n .1) (refusals ws b (ready b r) (length out)) c b r table out)
+
+  -- a reading that nests too deep
+  deep-answer : (c : Contents Entry) → tooDeep c ≡ true → answerTo (some c) line switch r table out ≡ leaving (Refused 16) r table out
+  unfolding answerTo
+  deep-answer c d = rw (ordered, le-ltb 256 (length line) short, unskipped, d)
 
   -- a reading that came to the line's end
-  whole-answer : (e : Took Entry) → lettered (words e) ≡ words e → SoundTook e → stopOf e ≡ none →
-      answerTo (some e) line switch r table out ≡ finished (execution (lettersOf (words e)) (valuesOf (words e)) r out) (settings e) table
+  whole-answer : (c : Contents Entry) → tooDeep c ≡ false → lettered (words (c .entries)) ≡ words (c .entries) → SoundTook (c .entries) → stopOf (c .entries) ≡ none →
+      answerTo (some c) line switch r table out ≡ finished (c .work) (execution (lettersOf (words (c .entries))) (valuesOf (words (c .entries))) r out) (settings (c .entries)) table
   unfolding answerTo execution executed
-  whole-answer e l s h =
-      let b = blockOf (words e) in
-      let cs = refusals (words e) b (ready b r) (length out) in
-      rw (ordered, le-ltb 256 (length line) short, unskipped, stop-none e h, in-order, in-range e s, said-back (words e), l)
-      (sym (finished-by (first cs) e b r table out (λ q. lacking 100 cs tt q)))
+  whole-answer c d l s h =
+      let ws = words (c .entries) in
+      let b = blockOf ws in
+      let cs = refusals ws b (ready b r) (length out) in
+      rw (ordered, le-ltb 256 (length line) short, unskipped, d, stop-none (c .entries) h, in-order, in-range (c .entries) s, said-back ws, l)
+      (sym (finished-by (first cs) c b r table out (λ q. lacking 100 cs tt q)))
 
   module _ (old : Spaces) (roomWords : length (old .letters) ≡ 128) (roomValues : length (old .values) ≡ 128) (roomNumbers : length (old .numbers) ≡ 64) (roomAmounts : length (old .amounts) ≡ 64) where
     -- what was stored of a whole reading is worked as the reading itself
-    stored-answer : (e : Took Entry) → length (words e) ≤ 128 → length (settings e) ≤ 64 → stopOf e ≡ none →
-        workedBy (outcome e) (stored e old) r table out ≡ finished (execution (lettersOf (words e)) (valuesOf (words e)) r out) (settings e) table
-    stored-answer e w n h =
+    stored-answer : (e : Took Entry) (work : ℕ) → length (words e) ≤ 128 → length (settings e) ≤ 64 → stopOf e ≡ none →
+        workedBy (outcome e work) (stored e old) r table out ≡ finished work (execution (lettersOf (words e)) (valuesOf (words e)) r out) (settings e) table
+    stored-answer e work w n h =
         let ws = words e in
         let ss = settings e in
         let a : take (length ws) (stored e old .letters) ≡ map (λ (x : Said). x .letter) ws = rw (← length-map (λ (x : Said). x .letter) ws) (front (map (λ (x : Said). x .letter) ws) (old .letters) (omega (arith, length-map (λ (x : Said). x .letter) ws))) in
@@ -200,16 +208,18 @@ module _ (line : List ℕ) (switch : Bool) (r : Record) (table out : List ℤ) (
     tree-answer : (t : Line) → Derives t line → worked (leaves table old t) r table out ≡ answer (some t) line switch r table out
     unfolding worked
     tree-answer (lineOf sl n is) d =
-        let e = lineEntries (arithmetic table) (lineOf sl n is) in
-        let l : lettered (words e) ≡ words e = entries-lettered table is (d .ok .1) in
-        let s : SoundTook e = entries-sound table is in
-        let c = line-counts table (lineOf sl n is) in
+        let c = contents (arithmetic table) (lineOf sl n is) in
+        let l : lettered (words (c .entries)) ≡ words (c .entries) = entries-lettered table is (d .ok .1) in
+        let s : SoundTook (c .entries) = entries-sound table is in
+        let m = line-counts table (lineOf sl n is) in
         let k = few d short in
-        go e l s (omega (arith, c .0, k .0)) (omega (arith, c .1, k .1)) (stopOf e) refl
+        go c l s (omega (arith, m .0, k .0)) (omega (arith, m .1, k .1)) (tooDeep c) refl (stopOf (c .entries)) refl
       where
-        go : (e : Took Entry) → lettered (words e) ≡ words e → SoundTook e → length (words e) ≤ 128 → length (settings e) ≤ 64 → (o : Option ℕ) → stopOf e ≡ o → workedBy (outcome e) (stored e old) r table out ≡ answerTo (some e) line switch r table out
-        go e l s w n none h = stored-answer e w n h ∙ sym (whole-answer e l s h)
-        go e l s w n (some k) h = rw (h, in-order) (sym (stopped-answer e s k h))
+        go : (c : Contents Entry) → lettered (words (c .entries)) ≡ words (c .entries) → SoundTook (c .entries) → length (words (c .entries)) ≤ 128 → length (settings (c .entries)) ≤ 64
+            → (b : Bool) → tooDeep c ≡ b → (o : Option ℕ) → stopOf (c .entries) ≡ o → worked (leftFor c old) r table out ≡ answerTo (some c) line switch r table out
+        go c l s w n true q o h = rw (q, in-order) (sym (deep-answer c q))
+        go c l s w n false q none h = rw q (stored-answer (c .entries) (c .work) w n h ∙ sym (whole-answer c q l s h))
+        go c l s w n false q (some k) h = rw (q, h, in-order) (sym (stopped-answer c q s k h))
 
     -- the promise, from what the reader left, for a record in order
     kept-in-order : {a : Reading} {lent : Spaces} → Reads line table old a lent → Right line switch r table out (workedBy a lent r table out)
@@ -229,16 +239,16 @@ module _ (line : List ℕ) (switch : Bool) (r : Record) (table out : List ℤ) (
       go false q = rw (out-of-order line switch r table out q a lent) (kept-1 line switch r table out (is-disorder line switch r table out q))
 
   -- read to its end, and worked
-  pub kept-read : {w n : ℕ} {lent : Spaces} → Reads line table old (Read w n) lent → {o : Outcome} {table′ out′ : List ℤ} →
-      record { outcome = o; out = out′ } ≡ execution (take w (lent .letters)) (take w (lent .values)) r out →
-      table′ ≡ tableAfter (o .answer) (settingsOf (take n (lent .numbers)) (take n (lent .amounts))) table → Right line switch r table out (after o table′ out′)
-  kept-read {w} {n} {lent} p {o} {table′} {out′} e h =
-      kept p (ap (λ (t : List ℤ). after o t out′) h ∙ ap (λ (d : Done). finished d (settingsOf (take n (lent .numbers)) (take n (lent .amounts))) table) e)
+  pub kept-read : {w n k : ℕ} {lent : Spaces} → Reads line table old (Read w n k) lent → {o : Report} {table′ out′ : List ℤ} →
+      record { outcome = o .outcome; out = out′ } ≡ execution (take w (lent .letters)) (take w (lent .values)) r out → o .work ≡ workDone (o .outcome .answer) k →
+      table′ ≡ tableAfter (o .outcome .answer) (settingsOf (take n (lent .numbers)) (take n (lent .amounts))) table → Right line switch r table out (after o table′ out′)
+  kept-read {w} {n} {k} {lent} p {o} {table′} {out′} e m h =
+      kept p (ap₂ (λ (work : ℕ) (t : List ℤ). worth work (o .outcome .answer) (o .outcome .rec) t out′) m h ∙ ap (λ (d : Done). finished k d (settingsOf (take n (lent .numbers)) (take n (lent .amounts))) table) e)
 
   -- refused by what was read
-  pub kept-refused : {a : Reading} {lent : Spaces} → Reads line table old a lent → (k : ℕ) → workedBy a lent r table out ≡ leaving (judgedAs (Refused k) r) r table out → {o : Outcome} →
-      o ≡ record { answer = judgedAs (Refused k) r; rec = r } → Right line switch r table out (after o table out)
-  kept-refused p k w h = kept p (ap (λ (o : Outcome). after o table out) h ∙ sym w)
+  pub kept-refused : {a : Reading} {lent : Spaces} → Reads line table old a lent → (k : ℕ) → workedBy a lent r table out ≡ leaving (judgedAs (Refused k) r) r table out → {o : Report} →
+      o ≡ unchanged (judgedAs (Refused k) r) r → Right line switch r table out (after o table out)
+  kept-refused p k w h = kept p (ap (λ (o : Report). after o table out) h ∙ sym w)
 
 -- ---- the lent spaces
 module _ (line : List ℕ) (switch : Bool) (table : List ℤ) (old : Spaces) where

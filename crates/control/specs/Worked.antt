@@ -1,4 +1,4 @@
--- What is left of a line from what reading it left: settings are applied only where the line is accepted, and a record out of order comes first.
+-- What is left of a line from what reading it left: settings are applied and work is reported only where the line is accepted, and a record out of order comes first.
 -- Assumes nothing.
 use mathlib.Core.Bool.{Bool, cond, not, _&&_, _||_}
 use mathlib.Core.List.{List, [], _∷_}
@@ -11,18 +11,23 @@ use Rattle.grammar.specs.Grammar.{Line}
 use Rattle.grammar.specs.Derivation.{ByForm}
 use Rattle.rules.specs.Meaning.{Setting}
 use Rattle.rules.specs.Reach.{inOrder}
-use Rattle.rules.specs.Promise.{After, after, leaving, apply, slashed}
+use Rattle.rules.specs.Promise.{After, worth, leaving, apply, slashed}
 use Rattle.rules.specs.declared.Record.{Record}
+use Rattle.rules.specs.declared.Report.{Report}
 use Rattle.rules.specs.declared.Answer.{Answer}
 use Rattle.rules.specs.declared.Answer.the-variants.{Accepted, Refused, Skipped}
 use Rattle.reader.specs.Reading.{Spaces, Left, zeros, leaves}
 use Rattle.reader.specs.declared.line.Reading.{Reading}
-use Rattle.reader.specs.declared.line.Reading.the-variants.{Read, Stopped, Wrong, TooLong}
+use Rattle.reader.specs.declared.line.Reading.the-variants.{Read, Stopped, Deep, Wrong, TooLong}
 use Rattle.block.specs.Execution.{Done, execution}
 
 -- number 1 comes before every other answer
 abbrev pub judgedAs : Answer → Record → Answer
 judgedAs a r = cond (inOrder r) a (Refused 1)
+
+-- an answer that changes nothing: "others report 0"
+abbrev pub unchanged : Answer → Record → Report
+unchanged a r = record { outcome = record { answer = a; rec = r }; work = 0 }
 
 -- settings by their parameter numbers and their values, side by side
 abbrev pub settingsOf : List ℕ → List ℤ → List Setting
@@ -36,14 +41,22 @@ tableAfter (Accepted n) ss table = apply ss table
 tableAfter (Refused n) ss table = table
 tableAfter Skipped ss table = table
 
-abbrev pub finished : Done → List Setting → List ℤ → After
-finished d ss table = after (d .outcome) (tableAfter (d .outcome .answer) ss table) (d .out)
+-- "Every accepted line reports the values and operations worked out .. others report 0"
+abbrev pub workDone : Answer → ℕ → ℕ
+workDone (Accepted n) work = work
+workDone (Refused n) work = 0
+workDone Skipped work = 0
+
+abbrev pub finished : ℕ → Done → List Setting → List ℤ → After
+finished work d ss table =
+    worth (workDone (d .outcome .answer) work) (d .outcome .answer) (d .outcome .rec) (tableAfter (d .outcome .answer) ss table) (d .out)
 
 -- by what the reader answers and what the lent spaces hold
 abbrev pub workedBy : Reading → Spaces → Record → List ℤ → List ℤ → After
-workedBy (Read w n) sp r table out =
-    finished (execution (take w (sp .letters)) (take w (sp .values)) r out) (settingsOf (take n (sp .numbers)) (take n (sp .amounts))) table
+workedBy (Read w n work) sp r table out =
+    finished work (execution (take w (sp .letters)) (take w (sp .values)) r out) (settingsOf (take n (sp .numbers)) (take n (sp .amounts))) table
 workedBy (Stopped k) sp r table out = leaving (judgedAs (Refused k) r) r table out
+workedBy Deep sp r table out = leaving (judgedAs (Refused 16) r) r table out
 workedBy (Wrong p) sp r table out = leaving (judgedAs (Refused 3) r) r table out
 workedBy TooLong sp r table out = leaving (judgedAs (Refused 2) r) r table out
 

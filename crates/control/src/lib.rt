@@ -3,15 +3,15 @@ ghost use mathlib.Core.Path.{_≡_};
 ghost use mathlib.Core.Bool.{false, _&&_};
 ghost use Prim.Native.Nat.{_≤_};
 ghost use lib.ListN.{length, take, set};
-ghost use Rattle.rules.specs.Promise.{Right, after, leaving, apply, slashed};
+ghost use Rattle.rules.specs.Promise.{Right, after, apply, slashed};
 ghost use Rattle.block.specs.Execution.{execution};
-ghost use Rattle.rules.specs.declared.Answer.the-variants.{Refused};
 ghost use Rattle.reader.specs.Reading.{spaces};
-ghost use Rattle.control.specs.Worked.{judgedAs, Lends, settingsOf, tableAfter};
+ghost use Rattle.control.specs.Worked.{judgedAs, unchanged, Lends, settingsOf, tableAfter, workDone};
 use reader::Reading;
 use rules::Answer;
 use rules::Outcome;
 use rules::Record;
+use rules::Report;
 use rules::Value;
 
 // Works one line. Whatever the line, the record, the table and the output space are, what is left
@@ -22,7 +22,7 @@ pub fn interpret(
     rec: Record,
     table: &mut [i64],
     out: &mut [i64],
-) -> Outcome
+) -> Report
     ensures { λ r. ⌜ Right (now (line .entry)) switch rec (now (table .entry)) (now (out .entry)) (after r (now (table .exit)) (now (out .exit))) ⌝ }
 {
     let mut letters = [0u8; 128];
@@ -53,11 +53,11 @@ pub fn interpret_in(
     values: &mut [i64; 128],
     numbers: &mut [usize; 64],
     amounts: &mut [i64; 64],
-) -> Outcome
+) -> Report
     ensures { λ r. ⌜ Right (now (line .entry)) switch rec (now (table .entry)) (now (out .entry)) (after r (now (table .exit)) (now (out .exit))) × Lends (now (line .entry)) switch (now (table .entry)) (spaces (now (letters .entry)) (now (values .entry)) (now (numbers .entry)) (now (amounts .entry))) (spaces (now (letters .exit)) (now (values .exit)) (now (numbers .exit)) (now (amounts .exit))) ⌝ }
 {
     if table.len() != 5000 {
-        return refused(1, rec);
+        return unchanged(Answer::Refused(1), rec);
     }
     if 256 < line.len() {
         return answered(Answer::Refused(2), rec);
@@ -88,27 +88,28 @@ fn sized(letters: &[u8; 128], values: &[i64; 128], numbers: &[usize; 64], amount
 
 fn slices(_letters: &[u8], _values: &[i64], _numbers: &[usize], _amounts: &[i64]) {}
 
-fn refused(number: u8, rec: Record) -> Outcome
-    ensures { λ r. ⌜ r ≡ record { answer = Refused number; rec = rec } ⌝ }
+// An answer that changes nothing, and so reports no work.
+fn unchanged(answer: Answer, rec: Record) -> Report
+    ensures { λ r. ⌜ r ≡ unchanged answer rec ⌝ }
 {
-    Outcome {
-        answer: Answer::Refused(number),
-        rec: rec,
+    Report {
+        outcome: Outcome {
+            answer: answer,
+            rec: rec,
+        },
+        work: 0,
     }
 }
 
 // What answers a line that is not worked, where the record is in order. A record out of order comes before it. `block`
 // judges the record of a line that is worked, so that no line has it judged twice.
-fn answered(answer: Answer, rec: Record) -> Outcome
-    ensures { λ r. ⌜ r ≡ record { answer = judgedAs answer rec; rec = rec } ⌝ }
+fn answered(answer: Answer, rec: Record) -> Report
+    ensures { λ r. ⌜ r ≡ unchanged (judgedAs answer rec) rec ⌝ }
 {
     if record::in_order(rec) {
-        return Outcome {
-            answer: answer,
-            rec: rec,
-        };
+        return unchanged(answer, rec);
     }
-    refused(1, rec)
+    unchanged(Answer::Refused(1), rec)
 }
 
 // With the switch on, a line whose first byte that is no blank is `/`.
@@ -146,23 +147,25 @@ fn read_and_work(
     values: &mut [i64; 128],
     numbers: &mut [usize; 64],
     amounts: &mut [i64; 64],
-) -> Outcome
+) -> Report
     requires { ⌜ (length (now table) ≡ 5000) × (length (now line) ≤ 256) × ((switch && slashed (now line)) ≡ false) × (length (now letters) ≡ 128) × (length (now values) ≡ 128) × (length (now numbers) ≡ 64) × (length (now amounts) ≡ 64) ⌝ }
     ensures { λ r. ⌜ Right (now (line .entry)) switch rec (now (table .entry)) (now (out .entry)) (after r (now (table .exit)) (now (out .exit))) × Lends (now (line .entry)) switch (now (table .entry)) (spaces (now (letters .entry)) (now (values .entry)) (now (numbers .entry)) (now (amounts .entry))) (spaces (now (letters .exit)) (now (values .exit)) (now (numbers .exit)) (now (amounts .exit))) ⌝ }
 {
     match reader::read(line, table, letters, values, numbers, amounts) {
-        Reading::Read(words, settings) => finish(
+        Reading::Read(words, settings, work) => finish(
             letters,
             values,
             words,
             numbers,
             amounts,
             settings,
+            work,
             rec,
             table,
             out,
         ),
         Reading::Stopped(number) => answered(Answer::Refused(number), rec),
+        Reading::Deep => answered(Answer::Refused(16), rec),
         Reading::Wrong(_) => answered(Answer::Refused(3), rec),
         Reading::TooLong => answered(Answer::Refused(2), rec),
     }
@@ -176,16 +179,31 @@ fn finish(
     numbers: &[usize; 64],
     amounts: &[i64; 64],
     settings: usize,
+    work: u64,
     rec: Record,
     table: &mut [i64],
     out: &mut [i64],
-) -> Outcome
-    ensures { λ r. ⌜ (record { outcome = r; out = now (out .exit) } ≡ execution (take words (now (letters .entry))) (take words (now (values .entry))) rec (now (out .entry))) × (now (table .exit) ≡ tableAfter (r .answer) (settingsOf (take settings (now (numbers .entry))) (take settings (now (amounts .entry)))) (now (table .entry))) ⌝ }
+) -> Report
+    ensures { λ r. ⌜ (record { outcome = r .outcome; out = now (out .exit) } ≡ execution (take words (now (letters .entry))) (take words (now (values .entry))) rec (now (out .entry))) × (r .work ≡ workDone (r .outcome .answer) work) × (now (table .exit) ≡ tableAfter (r .outcome .answer) (settingsOf (take settings (now (numbers .entry))) (take settings (now (amounts .entry)))) (now (table .entry))) ⌝ }
 {
     let outcome = block::execute(letters, values, words, rec, out);
     let answer = outcome.answer;
     set_entries(answer, numbers, amounts, settings, table);
-    outcome
+    Report {
+        outcome,
+        work: work_done(answer, work),
+    }
+}
+
+// The work that a line reports: none unless it is accepted.
+fn work_done(answer: Answer, work: u64) -> u64
+    ensures { λ r. ⌜ r ≡ workDone answer work ⌝ }
+{
+    match answer {
+        Answer::Accepted(_) => work,
+        Answer::Refused(_) => 0,
+        Answer::Skipped => 0,
+    }
 }
 
 // Applies the settings, in order, where the line is accepted.
@@ -233,12 +251,12 @@ pub fn step(
     rec: &mut Record,
     table: &mut [i64],
     out: &mut [i64],
-) -> Answer
-    ensures { λ r. ⌜ Right (now (line .entry)) switch (now (rec .entry)) (now (table .entry)) (now (out .entry)) (leaving r (now (rec .exit)) (now (table .exit)) (now (out .exit))) ⌝ }
+) -> Report
+    ensures { λ r. ⌜ Right (now (line .entry)) switch (now (rec .entry)) (now (table .entry)) (now (out .entry)) (after r (now (table .exit)) (now (out .exit))) × (now (rec .exit) ≡ r .outcome .rec) ⌝ }
 {
     let got = interpret(line, switch, *rec, table, out);
-    *rec = got.rec;
-    got.answer
+    *rec = got.outcome.rec;
+    got
 }
 
 // The same with plain parameters, over a record of its own that it lends to `step`: programs need no more.
@@ -248,9 +266,8 @@ pub fn work(
     mut rec: Record,
     table: &mut [i64],
     out: &mut [i64],
-) -> Outcome
+) -> Report
     ensures { λ left. ⌜ Right (now (line .entry)) switch rec (now (table .entry)) (now (out .entry)) (after left (now (table .exit)) (now (out .exit))) ⌝ }
 {
-    let answer = step(line, switch, &mut rec, table, out);
-    Outcome { answer, rec }
+    step(line, switch, &mut rec, table, out)
 }

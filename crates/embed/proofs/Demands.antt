@@ -9,9 +9,10 @@ use Rattle.rules.proofs.Demands.{unchanged, only}
 use Rattle.embed.specs.Packing.{Plain, Embedded, packed, unpacked, holdable, plain}
 use Rattle.embed.proofs.Repacked.{repacked}
 
--- nothing is changed: count 0, and record, table and output hold what they held
+-- nothing is changed: count 0, work 0, and record, table and output hold what they held
 pub record Untouched (rec table out : List ℤ) (left : Plain) : Type 0 where
   pub noCommand : left .answer .count ≡ 0
+  pub noWork : left .answer .work ≡ 0
   pub sameRecord : left .rec ≡ rec
   pub sameTable : left .table ≡ table
   pub sameOut : left .out ≡ out
@@ -22,12 +23,13 @@ module _ (line : List ℕ) (switch : Bool) (rec table out : List ℤ) where
   untouched {left} p h = go (holdable rec) refl
     where
       go : (b : Bool) → holdable rec ≡ b → Untouched rec table out left
-      go false e = subst (Untouched rec table out) (sym (p .not-held e)) (record { noCommand = refl; sameRecord = refl; sameTable = refl; sameOut = refl })
+      go false e = subst (Untouched rec table out) (sym (p .not-held e)) (record { noCommand = refl; noWork = refl; sameRecord = refl; sameTable = refl; sameOut = refl })
       go true e =
           let w = p .held e in
           let same = unchanged line switch (unpacked rec) table out (w .1) (λ n. h (ap (λ (l : Plain). l .answer .number) (w .2) ∙ n)) in
           subst (Untouched rec table out) (sym (w .2)) (record {
             noCommand = same .noCommand;
+            noWork = same .noWork;
             sameRecord = ap packed (same .sameRecord) ∙ repacked rec e;
             sameTable = same .sameTable;
             sameOut = same .sameOut;

@@ -14,11 +14,13 @@ use rules::Length;
 use rules::Record;
 use rules::Value;
 
-// The number that the line carries (0 accepted, 100 skipped) and the count of its commands.
+// The number that the line carries (0 accepted, 100 skipped), the count of its commands, and how many
+// values and operations were worked out, 0 unless it was accepted.
 #[repr(C)]
 pub struct Rs274Answer {
     pub number: u32,
     pub count: u64,
+    pub work: u64,
 }
 
 // Works one line. The record is 43 numbers, in the order that the header gives; numbers that no
@@ -37,31 +39,37 @@ pub extern "C" fn rs274_line(
         return Rs274Answer {
             number: 1,
             count: 0,
+            work: 0,
         };
     }
-    let outcome = control::work(line, switch, unpack(rec), table, out);
+    let report = control::work(line, switch, unpack(rec), table, out);
+    let outcome = report.outcome;
     let left = outcome.rec;
     let answer = outcome.answer;
+    let work = report.work;
     pack(left, rec);
-    answered(answer)
+    answered(answer, work)
 }
 
-// The number and the count that an answer stands for.
-fn answered(answer: Answer) -> Rs274Answer
-    ensures { λ r. ⌜ r ≡ answered answer ⌝ }
+// The number and the count that an answer stands for, with the work.
+fn answered(answer: Answer, work: u64) -> Rs274Answer
+    ensures { λ r. ⌜ r ≡ answered answer work ⌝ }
 {
     match answer {
         Answer::Accepted(commands) => Rs274Answer {
             number: 0,
             count: commands,
+            work,
         },
         Answer::Refused(number) => Rs274Answer {
             number: number as u32,
             count: 0,
+            work,
         },
         Answer::Skipped => Rs274Answer {
             number: 100,
             count: 0,
+            work,
         },
     }
 }

@@ -11,7 +11,7 @@ use lib.IntN.{ℤ, pos}
 use lib.ListN.{length, take, drop, length-append, length-drop, List·getD-append}
 use lib.Seq.{take-append-le, drop-append-le}
 use Rattle.grammar.specs.Bytes.{bytes, among}
-use Rattle.grammar.specs.Working.{Took}
+use Rattle.grammar.specs.Working.{Contents}
 use Rattle.rules.specs.Meaning.{Entry, words}
 use Rattle.rules.specs.Block.{blockOf, dwells, moves}
 use Rattle.rules.specs.Steps.{ready, motionOf, target}
@@ -110,7 +110,7 @@ pub record Alike (room : ℕ) (a b : After) : Type 0 where
   pub roomy : length (a .out) ≡ room
   pub few : countOf (a .outcome .answer) ≤ 9
 
-module _ (e : Took Entry) (b : Block) (r : Record) (table out out′ : List ℤ) (roomy : 72 ≤ length out) (same : length out′ ≡ length out) where
+module _ (e : Contents Entry) (b : Block) (r : Record) (table out out′ : List ℤ) (roomy : 72 ≤ length out) (same : length out′ ≡ length out) where
   accepted-alike : Alike (length out) (accepted e b r table out) (accepted e b r table out′)
   accepted-alike =
       let cs = commands b (ready b r) in
@@ -141,11 +141,11 @@ module _ (e : Took Entry) (b : Block) (r : Record) (table out out′ : List ℤ)
       by false true = skipped-alike
       by false false = refused-alike n
 
-pub answer-alike : (f : Option (Took Entry)) (l : List ℕ) (switch : Bool) (r : Record) (table out out′ : List ℤ) → 72 ≤ length out → length out′ ≡ length out
+pub answer-alike : (f : Option (Contents Entry)) (l : List ℕ) (switch : Bool) (r : Record) (table out out′ : List ℤ) → 72 ≤ length out → length out′ ≡ length out
     → Alike (length out) (answerTo f l switch r table out) (answerTo f l switch r table out′)
 unfolding answerTo
 answer-alike f l switch r table out out′ roomy same =
     let e = taken f in
-    let b = blockOf (words e) in
+    let b = blockOf (words (e .entries)) in
     subst (λ (k : ℕ). Alike (length out) (byNumber (first (numbersFor (underived f) e b l switch r table (length out))) e b r table out) (byNumber (first (numbersFor (underived f) e b l switch r table k)) e b r table out′)) (sym same)
     (number-alike e b r table out out′ roomy same (first (numbersFor (underived f) e b l switch r table (length out))))

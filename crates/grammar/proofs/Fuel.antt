@@ -9,11 +9,11 @@ use lib.ListN.{length, length-append}
 use Rattle.grammar.specs.Bytes.{bytes}
 use Rattle.grammar.specs.Grammar.{Value, number, parameter, applied, grouped, Expr, expr, Rest, done, more, writeValue, ValueOk, spellFunc, spellOp}
 use Rattle.grammar.specs.Working.{Arithmetic, value, Step, Took, end, after, stepOf}
-use Rattle.grammar.proofs.Read.{Read, fail, got, eat, bind, mapR, readNumber, opensNumber, readHead, readTail, valueOf, readItem}
+use Rattle.grammar.proofs.Read.{Read, fail, got, eat, bind, mapR, readNumber, opensNumber, readHead, readTail, valueOf, restOf, readItem}
 use Rattle.grammar.proofs.Read.{Head, hash, bare, call, spellHead, Tail, close, oper, spellTail, readExpr, readAfter, readMore, readValue, readRest}
 use Rattle.grammar.proofs.Back.{spells}
 use Rattle.grammar.proofs.Sound.{Good, nothing, front, Any, head-good, tail-good, value-good, valueOf-good, item-good}
-use Rattle.grammar.proofs.Terms.{Pass, closing}
+use Rattle.grammar.proofs.Terms.{Pass}
 use Rattle.grammar.proofs.OnePass.{calcExpr, calcAfter, calcMore, calcValue, calcRest, value-same, rest-same, calcOf, calcRestOf, calc-value, calcItem, calcItems, calcItemsOf, item-same}
 
 -- at most n bytes are left
@@ -75,6 +75,18 @@ mutual
   rest-fuel (suc f) (suc g) s a b =
       read-agree _ _ (tail-good s) (λ h r e. more-agree (length s) _ (λ q. readValue g q) _ (λ q. readRest g q) (value-within g) (λ q l. value-fuel f g q (omega arith) (omega arith)) (λ q l. rest-fuel f g q (omega arith) (omega arith)) h s r e (omega arith))
 
+-- the readers of trees, with no fuel
+pub value-eq : (s : List ℕ) → valueOf s ≡ cond (opensNumber s) (mapR number (readNumber s)) (bind (readHead s) (readAfter valueOf restOf))
+unfolding valueOf restOf
+value-eq s =
+    ap (cond (opensNumber s) (mapR number (readNumber s)))
+    (read-agree _ _ (head-good s) (λ h r e. after-agree (length s) _ valueOf _ restOf (λ q. value-within (suc (length q)) q) (λ q l. value-fuel (length s) (suc (length q)) q l (omega arith)) (λ q l. rest-fuel (length s) (suc (length q)) q l (omega arith)) h s r e (omega arith)))
+
+pub rest-eq : (s : List ℕ) → restOf s ≡ bind (readTail s) (readMore valueOf restOf)
+unfolding valueOf restOf
+rest-eq s =
+    read-agree _ _ (tail-good s) (λ h r e. more-agree (length s) _ valueOf _ restOf (λ q. value-within (suc (length q)) q) (λ q l. value-fuel (length s) (suc (length q)) q l (omega arith)) (λ q l. rest-fuel (length s) (suc (length q)) q l (omega arith)) h s r e (omega arith))
+
 -- the pass that works the values out, with no fuel: a reader in the source is proved by these equations
 module _ {W E S : Type 0} {A : Arithmetic W E} (P : Pass A S) where
   calc-within : (f : ℕ) (s : List ℕ) → Within (length s) (calcValue P f s)
@@ -87,7 +99,7 @@ module _ {W E S : Type 0} {A : Arithmetic W E} (P : Pass A S) where
 
     calc-after-agree : (h : Head) (s r : List ℕ) → s ≡ spellHead h ++ r → length s ≤ n → calcAfter P cv cr h r ≡ calcAfter P cv′ cr′ h r
     calc-after-agree hash s r e l = ap (mapR _) (hv r (omega (arith, ap length e)))
-    calc-after-agree bare s r e l = calc-expr-agree r (omega (arith, ap length e))
+    calc-after-agree bare s r e l = ap (mapR _) (calc-expr-agree r (omega (arith, ap length e)))
     calc-after-agree (call c) s r e l = ap (mapR _) (calc-expr-agree r (omega (arith, shorter s (spellHead (call c)) r e, length-append (spellFunc c) (bytes "["))))
 
     calc-more-agree : (st : S) (h : Tail) (s r : List ℕ) → s ≡ spellTail h ++ r → length s ≤ n → calcMore P cv cr st h r ≡ calcMore P cv′ cr′ st h r

@@ -20,7 +20,7 @@ use Rattle.grammar.proofs.Fuel.{read-agree, shorter}
 use Rattle.grammar.proofs.Place.{Placed, wrong, found, bindP, mapP, place, Sits, off, sits, good-sits, map-sits, place-bind, place-map, place-cond, valueP, calc-sits}
 
 -- fuel past the bytes to read changes nothing
-items-fuel : (f g : ℕ) (s : List ℕ) → length s < f → length s < g → readItems f s ≡ readItems g s
+pub items-fuel : (f g : ℕ) (s : List ℕ) → length s < f → length s < g → readItems f s ≡ readItems g s
 items-fuel zero g s a b = absurd (omega arith)
 items-fuel (suc f) zero s a b = absurd (omega arith)
 items-fuel (suc f) (suc g) [] a b = refl

@@ -11,5 +11,9 @@ pub mod OnePass
 pub mod Fuel
 pub mod Place
 pub mod Items
+pub mod Trees
 pub mod Viable
 pub mod Local
+pub mod Settled
+pub mod Bare
+pub mod Tally

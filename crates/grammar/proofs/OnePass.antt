@@ -10,7 +10,7 @@ use Rattle.grammar.specs.Grammar.{Number, Value, number, parameter, appl
 use Rattle.grammar.specs.Working.{Arithmetic, value, expression, pairs, Step, skip, Took, end, after, stepOf, entries, lineEntries}
 use Rattle.grammar.proofs.Read.{Read, fail, got, eat, bind, mapR, readNumber, opensNumber, readHead, readTail}
 use Rattle.grammar.proofs.Read.{Head, hash, bare, call, Tail, close, oper, readExpr, readAfter, readMore, readValue, readRest, valueOf, restOf, readItem, readItems, itemsOf, readSetting, readComment, takeWhile, dropWhile, readLabel, readSlash, readLine}
-use Rattle.grammar.proofs.Terms.{Pass, closing, onePass, one-in-order}
+use Rattle.grammar.proofs.Terms.{Pass, onePass}
 use Rattle.grammar.specs.declared.Op.{Op}
 
 module _ {X Y Z : Type 0} where
@@ -30,11 +30,11 @@ module _ {W E S : Type 0} {A : Arithmetic W E} (P : Pass A S) where
 
     abbrev pub calcAfter : Head → List ℕ → Read W
     calcAfter hash r = mapR (A .lookup) (cv r)
-    calcAfter bare r = calcExpr r
+    calcAfter bare r = mapR (A .enclose) (calcExpr r)
     calcAfter (call g) r = mapR (A .apply g) (calcExpr r)
 
     abbrev pub calcMore : S → Tail → List ℕ → Read W
-    calcMore st close r = got (closing P st) r
+    calcMore st close r = got (P .closing st) r
     calcMore st (oper o) r = bind (cv r) (λ b q. cr (P .pushed st o b) q)
 
   abbrev mutual
@@ -51,7 +51,7 @@ module _ {W E S : Type 0} {A : Arithmetic W E} (P : Pass A S) where
       (hv : (s : List ℕ) → cv s ≡ mapR (value A) (rv s)) (hr : (st : S) (s : List ℕ) → cr st s ≡ mapR (λ q. onePass P st (pairs A q)) (rr s)) where
     expr-end : (v : Value) (m : Read Rest) → mapR (λ q. onePass P (P .fresh (value A v)) (pairs A q)) m ≡ mapR (expression A) (mapR (expr v) m)
     expr-end v (fail q) = refl
-    expr-end v (got q r) = ap (λ x. got x r) (one-in-order P (value A v) (pairs A q))
+    expr-end v (got q r) = ap (λ x. got x r) (P .ordered (value A v) (pairs A q))
 
     expr-mid : (m : Read Value) → bind (mapR (value A) m) (λ a q. cr (P .fresh a) q) ≡ mapR (expression A) (bind m (λ v q. mapR (expr v) (rr q)))
     expr-mid (fail q) = refl
@@ -62,7 +62,7 @@ module _ {W E S : Type 0} {A : Arithmetic W E} (P : Pass A S) where
 
     after-same : (h : Head) (r : List ℕ) → calcAfter cv cr h r ≡ mapR (value A) (readAfter rv rr h r)
     after-same hash r = rw (hv r) (map-map _ _ (rv r) ∙ sym (map-map _ _ (rv r)))
-    after-same bare r = expr-same r ∙ sym (map-map _ _ (readExpr rv rr r))
+    after-same bare r = rw (expr-same r) (map-map _ _ (readExpr rv rr r) ∙ sym (map-map _ _ (readExpr rv rr r)))
     after-same (call g) r = rw (expr-same r) (map-map _ _ (readExpr rv rr r) ∙ sym (map-map _ _ (readExpr rv rr r)))
 
     more-mid : (st : S) (o : Op) (m : Read Value) → bind (mapR (value A) m) (λ b q. cr (P .pushed st o b) q) ≡ mapR (λ q. onePass P st (pairs A q)) (bind m (λ v q. mapR (more o v) (rr q)))

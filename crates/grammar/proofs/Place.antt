@@ -12,7 +12,7 @@ use Rattle.grammar.specs.Working.{Arithmetic, value, Step, skip}
 use Rattle.grammar.proofs.Read.{Read, fail, got, eat, bind, mapR, readNumber, opensNumber, numeric, readHead, readTail, headBy, tailBy, valueOf, dropWhile}
 use Rattle.grammar.proofs.Read.{Head, hash, bare, call, spellHead, Tail, close, oper, spellTail}
 use Rattle.grammar.proofs.Sound.{Good, nothing, front, Any, byte-good, head-good, tail-good, valueOf-good, number-good}
-use Rattle.grammar.proofs.Terms.{Pass, closing}
+use Rattle.grammar.proofs.Terms.{Pass}
 use Rattle.grammar.proofs.OnePass.{calcExpr, calcAfter, calcMore, calcOf, calcRestOf, calc-value, calcItem, calcSetting}
 use Rattle.grammar.proofs.Fuel.{calc-eq, calc-rest-eq, Within, out, left, calcOf-within}
 use Rattle.grammar.specs.declared.Op.{Op}
@@ -76,7 +76,7 @@ forward s at a p l (left {r = r} h) e =
     omega (arith, length-drop at s)
 
 -- a spelling's end lies its length further on
-spelt : {A : Type 0} (w : A → List ℕ) (Ok : A → Type 0) (s : List ℕ) (at : ℕ) {m : Read A} (a : A) (p : ℕ) → at ≤ length s → Good w Ok (drop at s) m → place s m ≡ found a p → (p ≡ at + length (w a)) × (p ≤ length s)
+pub spelt : {A : Type 0} (w : A → List ℕ) (Ok : A → Type 0) (s : List ℕ) (at : ℕ) {m : Read A} (a : A) (p : ℕ) → at ≤ length s → Good w Ok (drop at s) m → place s m ≡ found a p → (p ≡ at + length (w a)) × (p ≤ length s)
 spelt w Ok s at a p l nothing e = absurd (let z : _≡_ {A = ℕ} 0 1 = cc in omega arith)
 spelt w Ok s at a p l (front {a = b} {r = q} h o) e =
     let same : b ≡ a = cc in
@@ -120,11 +120,11 @@ module _ {W E S : Type 0} {A : Arithmetic W E} (P : Pass A S) (s : List ℕ) whe
 
   abbrev pub afterP : Head → ℕ → Placed W
   afterP hash at = mapP (A .lookup) (valueP at)
-  afterP bare at = exprP at
+  afterP bare at = mapP (A .enclose) (exprP at)
   afterP (call g) at = mapP (A .apply g) (exprP at)
 
   abbrev pub moreP : S → Tail → ℕ → Placed W
-  moreP st close at = found (closing P st) at
+  moreP st close at = found (P .closing st) at
   moreP st (oper o) at = bindP (valueP at) (λ b q. restP (P .pushed st o b) q)
 
   pub calc-sits : (at : ℕ) → Sits s (calcOf P (drop at s))
@@ -137,7 +137,7 @@ module _ {W E S : Type 0} {A : Arithmetic W E} (P : Pass A S) (s : List ℕ) whe
   after-place : (h : Head) (at : ℕ) → place s (calcAfter P (calcOf P) (calcRestOf P) h (drop at s)) ≡ afterP h at
   unfolding valueP
   after-place hash at = place-map s _ (calcOf P (drop at s))
-  after-place bare at = expr-place at
+  after-place bare at = place-map s (A .enclose) (calcExpr P (calcOf P) (calcRestOf P) (drop at s)) ∙ ap (mapP (A .enclose)) (expr-place at)
   after-place (call g) at = place-map s _ (calcExpr P (calcOf P) (calcRestOf P) (drop at s)) ∙ ap (mapP _) (expr-place at)
 
   pub value-place : (at : ℕ) → valueP at ≡ cond (opensNumber (drop at s)) (mapP (A .numberOf) (numberP s at)) (bindP (headP s at) afterP)
@@ -149,7 +149,7 @@ module _ {W E S : Type 0} {A : Arithmetic W E} (P : Pass A S) (s : List ℕ) whe
 
   more-place : (st : S) (h : Tail) (at : ℕ) → at ≤ length s → place s (calcMore P (calcOf P) (calcRestOf P) st h (drop at s)) ≡ moreP st h at
   unfolding valueP restP
-  more-place st close at l = ap (found (closing P st)) (simp length-drop (omega arith))
+  more-place st close at l = ap (found (P .closing st)) (simp length-drop (omega arith))
   more-place st (oper o) at l = place-bind s _ _ (calc-sits at) (λ b q _. refl)
 
   pub rest-place : (st : S) (at : ℕ) → restP st at ≡ bindP (tailP s at) (moreP st)

@@ -1,4 +1,5 @@
 pub mod Bytes
 pub mod Grammar
 pub mod Derivation
+pub mod Work
 pub mod Working

@@ -6,6 +6,7 @@ use mathlib.Core.List.{List, [], _∷_}
 use mathlib.Core.Option.{Option, none, some}
 use Prim.Native.Nat.{ℕ}
 use Rattle.grammar.specs.Grammar.{Number, Value, number, parameter, applied, grouped, Expr, expr, Rest, done, more, Item, word, setting, comment, Line, line}
+use Rattle.grammar.specs.Work.{work, depth}
 use Rattle.grammar.specs.declared.Op.{Op}
 use Rattle.grammar.specs.declared.Op.the-variants.{Add, Sub, Mul, Div, Mod, And, Or, Xor}
 use Rattle.grammar.specs.declared.Func.{Func}
@@ -22,11 +23,18 @@ pub data Took (E : Type 0) : Type 0 where
   stopped : ℕ → Took E
   took : E → Took E → Took E
 
--- the arithmetic that is handed in
+-- all that a line's derivation gives: its words and settings, its work, and how deep it nests
+pub record Contents (E : Type 0) : Type 0 where
+  pub entries : Took E
+  pub work : ℕ
+  pub depth : ℕ
+
+-- the arithmetic that is handed in; `enclose` is what brackets make of a value
 pub record Arithmetic (W E : Type 0) : Type 0 where
   pub numberOf : Number → W
   pub lookup : W → W
   pub apply : Func → W → W
+  pub enclose : W → W
   pub work : Op → W → W → W
   pub wordOf : ℕ → W → Step E
   pub settingOf : W → W → Step E
@@ -79,7 +87,7 @@ module _ {W E : Type 0} (A : Arithmetic W E) where
     value (number n) = A .numberOf n
     value (parameter v) = A .lookup (value v)
     value (applied f e) = A .apply f (expression e)
-    value (grouped e) = expression e
+    value (grouped e) = A .enclose (expression e)
 
     pub expression : Expr → W
     expression (expr v r) = inOrder (value v) (pairs r)
@@ -101,7 +109,10 @@ module _ {W E : Type 0} (A : Arithmetic W E) where
   abbrev pub lineEntries : Line → Took E
   lineEntries (line s n is) = entries is
 
+  abbrev pub contents : Line → Contents E
+  contents t = record { entries = lineEntries t; work = work t; depth = depth t }
+
   -- the same for a derivation, or for none
-  abbrev pub entriesOf : Option Line → Option (Took E)
-  entriesOf none = none
-  entriesOf (some t) = some (lineEntries t)
+  abbrev pub contentsOf : Option Line → Option (Contents E)
+  contentsOf none = none
+  contentsOf (some t) = some (contents t)

@@ -10,47 +10,47 @@ use lib.Dec.{eqb}
 use lib.IntN.{ℤ}
 use lib.ListN.{length, drop, getD, length-drop, drop-of-length-le}
 use lib.Seq.{drop-drop}
-use Rattle.grammar.specs.Grammar.{digit, Label, Slash, plain, slash}
-use Rattle.grammar.specs.Working.{Took}
+use Rattle.grammar.specs.Grammar.{digit, Label, Slash, plain, slash, Item, Line, line}
 use Rattle.grammar.proofs.Read.{Read, fail, got, takeWhile, readLabel, labelled}
 use Rattle.grammar.proofs.Sound.{while-good}
-use Rattle.grammar.proofs.Place.{Placed, wrong, found, bindP, place}
-use Rattle.grammar.proofs.Items.{itemsP, labelP, slashP, lineP, line-place}
-use Rattle.rules.specs.Meaning.{Entry}
-use Rattle.reader.specs.Pass.{pass}
-use Rattle.reader.specs.Places.{DigitsAt, slashEnd, labelEnd}
+use Rattle.grammar.proofs.Place.{Placed, wrong, found, bindP, mapP, place}
+use Rattle.grammar.proofs.Trees.{itemsT, labelT, slashT, lineT, line-tree}
+use Rattle.reader.specs.Places.{DigitsAt, slashEnd, speltTo}
+use Rattle.reader.specs.Reading.{Spaces}
+use Rattle.reader.specs.Gather.{checked, leftByItems, leftByLine}
 use Rattle.reader.specs.declared.numbers.Digits.{Digits}
 use Rattle.reader.specs.declared.spelling.Spelt.the-variants.{To, Not}
 use Rattle.reader.proofs.Spellings.{back, first-of}
 use Rattle.reader.proofs.Numerals.{drop-digits, run-on}
+use Rattle.reader.proofs.Evaluating.{ends-is, not-is}
 use Rattle.reader.proofs.Clash.{clash}
 
 module _ (s : List ℕ) (at : ℕ) (l : at ≤ length s) where
-  pub label-past : length s ≤ at → To at ≡ labelEnd (labelP (pass []) s at)
-  unfolding labelP
+  pub label-past : length s ≤ at → To at ≡ speltTo (labelT s at)
+  unfolding labelT
   label-past h = rw (drop-of-length-le s h) (ap To (let e : at ≡ length s - 0 = omega arith in e))
 
   module _ (h : at < length s) where
-    pub label-none : (getD s at 0 ≡ 78 → ⊥) → To at ≡ labelEnd (labelP (pass []) s at)
-    unfolding labelP
+    pub label-none : (getD s at 0 ≡ 78 → ⊥) → To at ≡ speltTo (labelT s at)
+    unfolding labelT
     label-none n = rw (first-of s at h, ne-eqb 78 (getD s at 0) (λ e. n (sym e))) (ap To (let e : at ≡ length s - suc (length (drop (at + 1) s)) = simp length-drop (omega arith) in e))
 
     module _ (n : getD s at 0 ≡ 78) {r : Digits} (q : DigitsAt s (at + 1) 0 r) where
       ds : List ℕ
       ds = takeWhile digit (drop (at + 1) s)
 
-      after-n : labelP (pass []) s at ≡ place s (labelled ds (drop (r .next) s))
-      unfolding labelP ds
+      after-n : labelT s at ≡ place s (labelled ds (drop (r .next) s))
+      unfolding labelT ds
       after-n = rw (first-of s at h, n, drop-digits s (at + 1), ← q .past)
 
       far : (at + 1 ≤ r .next) × (r .next ≤ length s)
       far = run-on s (at + 1) 0 (omega arith) q
 
-      pub label-empty : r .next ≡ at + 1 → Not (r .next) ≡ labelEnd (labelP (pass []) s at)
+      pub label-empty : r .next ≡ at + 1 → Not (r .next) ≡ speltTo (labelT s at)
       unfolding ds
       label-empty e = rw (after-n, lt-leb 1 (length ds) (omega (arith, q .past))) (ap Not (sym (back s (r .next) (far .1))))
 
-      pub label-many : at + 6 < r .next → Not (at + 6) ≡ labelEnd (labelP (pass []) s at)
+      pub label-many : at + 6 < r .next → Not (at + 6) ≡ speltTo (labelT s at)
       unfolding ds
       label-many e =
           let v : ds ++ drop (r .next) s ≡ drop (at + 1) s = ap (λ (k : ℕ). ds ++ drop k s) (q .past) ∙ ap (λ (x : List ℕ). ds ++ x) (sym (drop-digits s (at + 1))) ∙ sym (while-good digit (drop (at + 1) s)) in
@@ -58,15 +58,15 @@ module _ (s : List ℕ) (at : ℕ) (l : at ≤ length s) where
           let w : drop 5 (ds ++ drop (r .next) s) ≡ drop (at + 6) s = ap (drop 5) v ∙ drop-drop 5 (at + 1) s ∙ ap (λ (k : ℕ). drop k s) u in
           rw (after-n, le-leb 1 (length ds) (omega (arith, q .past)), lt-leb (length ds) 5 (omega (arith, q .past)), w) (ap Not (sym (back s (at + 6) (omega (arith, far)))))
 
-      pub label-some : (r .next ≡ at + 1 → ⊥) → r .next ≤ at + 6 → To (r .next) ≡ labelEnd (labelP (pass []) s at)
+      pub label-some : (r .next ≡ at + 1 → ⊥) → r .next ≤ at + 6 → To (r .next) ≡ speltTo (labelT s at)
       unfolding ds
       label-some a b = rw (after-n, le-leb 1 (length ds) (omega (arith, q .past, far)), le-leb (length ds) 5 (omega (arith, q .past))) (ap To (sym (back s (r .next) (far .1))))
 
-pub label-within : (s : List ℕ) (at : ℕ) {p : ℕ} → To p ≡ labelEnd (labelP (pass []) s at) → p ≤ length s
-unfolding labelP
+pub label-within : (s : List ℕ) (at : ℕ) {p : ℕ} → To p ≡ speltTo (labelT s at) → p ≤ length s
+unfolding labelT
 label-within s at {p} e = go (readLabel (drop at s)) e
   where
-    go : (m : Read Label) → To p ≡ labelEnd (place s m) → p ≤ length s
+    go : (m : Read Label) → To p ≡ speltTo (place s m) → p ≤ length s
     go (fail q) h = clash (cc)
     go (got x q) h = let k : length s - length q ≡ p = cc in omega arith
 
@@ -90,38 +90,48 @@ slash-on (b ∷ s) = go (eqb 47 b)
     go true = omega arith
     go false = omega arith
 
-pub record Slashing (t : List ℤ) (s : List ℕ) : Type 0 where
-  pub slash : Slash
-  pub is : slashP (pass t) s ≡ found slash (slashEnd s)
+record Slashing (s : List ℕ) : Type 0 where
+  mark : Slash
+  is : slashT s ≡ found mark (slashEnd s)
 
-slashing : (t : List ℤ) (s : List ℕ) → Slashing t s
-unfolding slashP
-slashing t [] = record { slash = plain; is = refl }
-slashing t (b ∷ s) = go (eqb 47 b) refl
+slashing : (s : List ℕ) → Slashing s
+unfolding slashT
+slashing [] = record { mark = plain; is = refl }
+slashing (b ∷ s) = go (eqb 47 b) refl
   where
-    go : (c : Bool) → eqb 47 b ≡ c → Slashing t (b ∷ s)
-    go true e = record { slash = slash; is = rw e (ap (found slash) (omega arith)) }
-    go false e = record { slash = plain; is = rw e (ap (found plain) (omega arith)) }
+    go : (c : Bool) → eqb 47 b ≡ c → Slashing (b ∷ s)
+    go true e = record { mark = slash; is = rw e (ap (found slash) (omega arith)) }
+    go false e = record { mark = plain; is = rw e (ap (found plain) (omega arith)) }
 
-label-any : (t : List ℤ) (s : List ℕ) (at : ℕ) → labelP (pass t) s at ≡ labelP (pass []) s at
-unfolding labelP
-label-any t s at = refl
+module _ (s : List ℕ) {a : ℕ} (z : a ≡ slashEnd s) where
+  -- the line is its beginning and its items
+  record Opened (p : ℕ) : Type 0 where
+    mark : Slash
+    label : Label
+    is : lineT s ≡ mapP (line mark label) (itemsT s p)
 
-at-label : (m : Placed Label) {p : ℕ} (k : ℕ → Placed (Took Entry)) → To p ≡ labelEnd m → bindP m (λ _ q. k q) ≡ k p
-at-label (wrong q) k e = clash (cc)
-at-label (found x q) {p} k e = let h : q ≡ p = cc in ap k h
+  opened : lineT s ≡ bindP (labelT s a) (λ n q. mapP (line (slashing s .mark) n) (itemsT s q))
+  opened = line-tree s ∙ rw (slashing s .is, z)
 
-no-label : (m : Placed Label) {p : ℕ} (k : ℕ → Placed (Took Entry)) → Not p ≡ labelEnd m → bindP m (λ _ q. k q) ≡ wrong p
-no-label (wrong q) {p} k e = let h : q ≡ p = cc in ap wrong h
-no-label (found x q) k e = clash (cc)
+  open-at : {p : ℕ} → To p ≡ speltTo (labelT s a) → Opened p
+  open-at {p} e =
+      let k = ends-is (labelT s a) e in
+      record { mark = slashing s .mark; label = k .thing; is = opened ∙ ap (λ (m : Placed Label). bindP m (λ n q. mapP (line (slashing s .mark) n) (itemsT s q))) (k .is) }
 
-module _ (t : List ℤ) (s : List ℕ) {a : ℕ} (z : a ≡ slashEnd s) where
-  opened : lineP (pass t) s ≡ bindP (labelP (pass []) s a) (λ _ q. itemsP (pass t) s q)
-  opened = line-place (pass t) s ∙ rw (slashing t s .is, z, label-any t s (slashEnd s))
+  items-left : (t : List ℤ) (old : Spaces) (x : Slash) (n : Label) (m : Placed (List Item)) → leftByItems t m old ≡ leftByLine t (mapP (line x n) m) old
+  items-left t old x n (wrong p) = refl
+  items-left t old x n (found is p) = refl
 
-  -- the items follow the line's beginning
-  pub line-items : {p : ℕ} → To p ≡ labelEnd (labelP (pass []) s a) → itemsP (pass t) s p ≡ lineP (pass t) s
-  line-items e = sym (opened ∙ at-label (labelP (pass []) s a) (λ q. itemsP (pass t) s q) e)
+  items-checked : (x : Slash) (n : Label) (m : Placed (List Item)) → checked m ≡ checked (mapP (line x n) m)
+  items-checked x n (wrong p) = refl
+  items-checked x n (found is p) = refl
 
-  pub line-wrong : {p : ℕ} → Not p ≡ labelEnd (labelP (pass []) s a) → wrong p ≡ lineP (pass t) s
-  line-wrong e = sym (opened ∙ no-label (labelP (pass []) s a) (λ q. itemsP (pass t) s q) e)
+  -- what the items leave the line leaves, and their form is the line's
+  pub line-left : (t : List ℤ) (old : Spaces) {p : ℕ} → To p ≡ speltTo (labelT s a) → leftByItems t (itemsT s p) old ≡ leftByLine t (lineT s) old
+  line-left t old {p} e = let k = open-at e in items-left t old (k .mark) (k .label) (itemsT s p) ∙ ap (λ (m : Placed Line). leftByLine t m old) (sym (k .is))
+
+  pub line-checked : {p : ℕ} → To p ≡ speltTo (labelT s a) → checked (itemsT s p) ≡ checked (lineT s)
+  line-checked {p} e = let k = open-at e in items-checked (k .mark) (k .label) (itemsT s p) ∙ ap (λ (m : Placed Line). checked m) (sym (k .is))
+
+  pub line-wrong : {p : ℕ} → Not p ≡ speltTo (labelT s a) → wrong p ≡ lineT s
+  line-wrong e = sym (opened ∙ rw (not-is (labelT s a) e))

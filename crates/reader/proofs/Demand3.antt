@@ -2,9 +2,9 @@
 -- and a wrong form exactly where there is no derivation. Every law here follows from the contract alone.
 -- Assumes nothing.
 use mathlib.Core.Path.{_≡_, refl, sym, ap, _∙_}
-use mathlib.Core.Bool.{Bool, true, false}
+use mathlib.Core.Bool.{Bool, true, false, cond}
 use mathlib.Core.List.{List, [], _∷_, _++_, map}
-use mathlib.Core.Logic.{⊎-elim}
+use mathlib.Core.Logic.{_⊎_, inl, inr, ⊎-elim}
 use mathlib.Core.Option.{Option, none, some}
 use Prim.Native.Nat.{ℕ, _+_, _≤_, _<_}
 use native.Mathlib.Omega.{arith}
@@ -15,38 +15,53 @@ use lib.ListN.{length, drop, length-map}
 use lib.Seq.{sets, sets-eq}
 use Rattle.grammar.specs.Grammar.{Item, word, setting, comment, Line, line}
 use Rattle.grammar.specs.Derivation.{strip, Derives}
-use Rattle.grammar.specs.Working.{Step, Took, end, stopped, took, after, value, entries, lineEntries}
+use Rattle.grammar.specs.Work.{work, depth}
+use Rattle.grammar.specs.Working.{Step, Took, end, stopped, took, Contents, after, value, entries, lineEntries, contents}
 use Rattle.grammar.proofs.Derivations.{decided}
 use Rattle.grammar.proofs.Lengths.{wordCount, settingCount, itemsOf, few}
 use Rattle.rules.specs.Meaning.{Entry, wordOf, settingOf, settingAt, parameterOf, arithmetic, stoppedBy, Said, Setting, words, settings}
+use Rattle.rules.specs.Promise.{tooDeep}
 use Rattle.rules.specs.declared.Worked.{Worked}
 use Rattle.rules.specs.declared.Worked.the-variants.{Good, Bad}
 use Rattle.rules.specs.declared.Parameter.{Parameter}
 use Rattle.rules.specs.declared.Parameter.the-variants.{Number as Numbered, Outside}
 use Rattle.reader.specs.Underived.{FirstWrong}
-use Rattle.reader.specs.Reading.{Spaces, zeros, stored, stopOf, counted, outcome, Left, left, Reads}
+use Rattle.reader.specs.Reading.{Spaces, zeros, stored, stopOf, counted, outcome, leftFor, leaves, Left, left, Reads}
 use Rattle.reader.specs.declared.line.Reading.{Reading}
-use Rattle.reader.specs.declared.line.Reading.the-variants.{Read as Whole, Stopped, Wrong, TooLong}
+use Rattle.reader.specs.declared.line.Reading.the-variants.{Read as Whole, Stopped, Deep, Wrong, TooLong}
 use Rattle.reader.proofs.Stops.{Refusal, StopsSo, line-stops}
 use Rattle.reader.proofs.FirstWrong.{first-wrong-one}
 use Rattle.reader.proofs.Clash.{clash}
 
 -- ---- what an answer for a tree tells
 
-never-wrong : (o : Option ℕ) (w n : ℕ) {p : ℕ} {X : Type 0} → counted o w n ≡ Wrong p → X
-never-wrong none w n e = clash (cc)
-never-wrong (some k) w n e = clash (cc)
+never-wrong : (o : Option ℕ) (w n k : ℕ) {p : ℕ} {X : Type 0} → counted o w n k ≡ Wrong p → X
+never-wrong none w n k e = clash (cc)
+never-wrong (some m) w n k e = clash (cc)
+
+never-deep : (o : Option ℕ) (w n k : ℕ) {X : Type 0} → counted o w n k ≡ Deep → X
+never-deep none w n k e = clash (cc)
+never-deep (some m) w n k e = clash (cc)
 
 -- the number that stopped the reading is the rules' one
-stopped-is : (e : Took Entry) (w n : ℕ) {k : ℕ} → counted (stopOf e) w n ≡ Stopped k → StopsSo e → (stoppedBy e ≡ k) × Refusal k
-stopped-is end w n h s = clash (cc)
-stopped-is (stopped m) w n {k} h s = let d : m ≡ k = cc in (d, rw d at s)
-stopped-is (took x e) w n h s = stopped-is e w n h s
+stopped-is : (e : Took Entry) (w n k : ℕ) {m : ℕ} → counted (stopOf e) w n k ≡ Stopped m → StopsSo e → (stoppedBy e ≡ m) × Refusal m
+stopped-is end w n k h s = clash (cc)
+stopped-is (stopped x) w n k {m} h s = let d : x ≡ m = cc in (d, rw d at s)
+stopped-is (took x e) w n k h s = stopped-is e w n k h s
 
-whole-is : (e : Took Entry) (w n : ℕ) {v m : ℕ} → counted (stopOf e) w n ≡ Whole v m → (stoppedBy e ≡ 0) × (w ≡ v) × (n ≡ m)
-whole-is end w n h = (refl, cc, cc)
-whole-is (stopped m) w n h = clash (cc)
-whole-is (took x e) w n h = whole-is e w n h
+whole-is : (e : Took Entry) (w n k : ℕ) {v m j : ℕ} → counted (stopOf e) w n k ≡ Whole v m j → (stoppedBy e ≡ 0) × (w ≡ v) × (n ≡ m) × (k ≡ j)
+whole-is end w n k h = (refl, cc, cc, cc)
+whole-is (stopped m) w n k h = clash (cc)
+whole-is (took x e) w n k h = whole-is e w n k h
+
+-- an answer is too deep, or it is that of the words and settings
+by-depth : (c : Contents Entry) (old : Spaces) {r : Reading} → r ≡ leftFor c old .answer → ((tooDeep c ≡ true) × (r ≡ Deep)) ⊎ ((tooDeep c ≡ false) × (r ≡ outcome (c .entries) (c .work)))
+by-depth c old {r} e = go (tooDeep c) refl e
+  where
+    go : (d : Bool) → tooDeep c ≡ d → r ≡ cond d (left Deep zeros) (left (outcome (c .entries) (c .work)) (stored (c .entries) old)) .answer →
+        ((tooDeep c ≡ true) × (r ≡ Deep)) ⊎ ((tooDeep c ≡ false) × (r ≡ outcome (c .entries) (c .work)))
+    go true d h = inl (d, h)
+    go false d h = inr (d, h)
 
 -- ---- the lent spaces have room for a derived line
 
@@ -100,38 +115,59 @@ pub record Fronts (e : Took Entry) (old sp : Spaces) : Type 0 where
 module _ (l : List ℕ) (t : List ℤ) (old : Spaces) (r : Reading) (sp : Spaces) (h : length l ≤ 256) (p : Reads l t old r sp) where
   -- what is left is the derivation's
   module _ (u : Line) (d : Derives u l) where
-    -- the answer: how many words and settings the tree has, or the number that stopped the reading
-    pub tree-answer : r ≡ outcome (lineEntries (arithmetic t) u)
-    tree-answer = ap (λ (x : Left). x .answer) (p .byTree h u d)
+    -- what the tree gives
+    abbrev gives : Contents Entry
+    gives = contents (arithmetic t) u
 
-    -- the tree's words and settings are stored, in order, with their values
-    pub tree-stored : sp ≡ stored (lineEntries (arithmetic t) u) old
-    tree-stored = ap (λ (x : Left). x .lent) (p .byTree h u d)
+    is-answer : r ≡ leftFor gives old .answer
+    is-answer = ap (λ (x : Left). x .answer) (p .byTree h u d)
 
-    -- so the spaces begin with them, and past them hold what was there
-    pub tree-fronts : length (old .letters) ≡ 128 → length (old .values) ≡ 128 → length (old .numbers) ≡ 64 → length (old .amounts) ≡ 64 → Fronts (lineEntries (arithmetic t) u) old sp
-    tree-fronts a b c g =
-        let k = line-counts t u in
-        let m = few d h in
-        rw tree-stored
-        (record {
-          letters = at-front (λ (x : Said). x .letter) (words (lineEntries (arithmetic t) u)) (old .letters) (omega (arith, k, m));
-          values = at-front (λ (x : Said). x .value) (words (lineEntries (arithmetic t) u)) (old .values) (omega (arith, k, m));
-          numbers = at-front (λ (x : Setting). x .number) (settings (lineEntries (arithmetic t) u)) (old .numbers) (omega (arith, k, m));
-          amounts = at-front (λ (x : Setting). x .value) (settings (lineEntries (arithmetic t) u)) (old .amounts) (omega (arith, k, m));
-        })
+    -- a line that nests deeper than 24 is told so, and nothing of it is left
+    pub tree-deep : tooDeep gives ≡ true → (r ≡ Deep) × (sp ≡ zeros)
+    tree-deep e =
+        let k : left r sp ≡ left Deep zeros = p .byTree h u d ∙ rw e in
+        (ap (λ (x : Left). x .answer) k, ap (λ (x : Left). x .lent) k)
 
-    -- a line that is read is stopped by none of numbers 5 to 7, and the counts are those of its words and settings
-    pub tree-read : (w n : ℕ) → r ≡ Whole w n →
-        (stoppedBy (lineEntries (arithmetic t) u) ≡ 0) × (length (words (lineEntries (arithmetic t) u)) ≡ w) × (length (settings (lineEntries (arithmetic t) u)) ≡ n)
-    tree-read w n e = whole-is (lineEntries (arithmetic t) u) _ _ (sym tree-answer ∙ e)
+    -- and only such a line
+    pub deep-tree : r ≡ Deep → tooDeep gives ≡ true
+    deep-tree e = ⊎-elim (λ k. k .0) (λ k. never-deep (stopOf (gives .entries)) _ _ _ (sym (k .1) ∙ e)) (by-depth gives old is-answer)
 
-    -- and a line that is stopped is stopped by the number that the rules name, one of 5 to 7
-    pub tree-stopped : (k : ℕ) → r ≡ Stopped k → (stoppedBy (lineEntries (arithmetic t) u) ≡ k) × Refusal k
-    tree-stopped k e = stopped-is (lineEntries (arithmetic t) u) _ _ (sym tree-answer ∙ e) (line-stops t u)
+    module _ (n : tooDeep gives ≡ false) where
+      shallow : left r sp ≡ left (outcome (gives .entries) (gives .work)) (stored (gives .entries) old)
+      shallow = p .byTree h u d ∙ rw n
+
+      -- the answer of any other: how many words and settings the tree has and its work, or the number that stopped the reading
+      pub tree-answer : r ≡ outcome (lineEntries (arithmetic t) u) (work u)
+      tree-answer = ap (λ (x : Left). x .answer) shallow
+
+      -- its words and settings are stored, in order, with their values
+      pub tree-stored : sp ≡ stored (lineEntries (arithmetic t) u) old
+      tree-stored = ap (λ (x : Left). x .lent) shallow
+
+      -- so the spaces begin with them, and past them hold what was there
+      pub tree-fronts : length (old .letters) ≡ 128 → length (old .values) ≡ 128 → length (old .numbers) ≡ 64 → length (old .amounts) ≡ 64 → Fronts (lineEntries (arithmetic t) u) old sp
+      tree-fronts a b c g =
+          let k = line-counts t u in
+          let m = few d h in
+          rw tree-stored
+          (record {
+            letters = at-front (λ (x : Said). x .letter) (words (lineEntries (arithmetic t) u)) (old .letters) (omega (arith, k, m));
+            values = at-front (λ (x : Said). x .value) (words (lineEntries (arithmetic t) u)) (old .values) (omega (arith, k, m));
+            numbers = at-front (λ (x : Setting). x .number) (settings (lineEntries (arithmetic t) u)) (old .numbers) (omega (arith, k, m));
+            amounts = at-front (λ (x : Setting). x .value) (settings (lineEntries (arithmetic t) u)) (old .amounts) (omega (arith, k, m));
+          })
+
+    -- a line that is read nests no deeper than 24 and is stopped by none of numbers 5 to 7; the counts are those of its words and settings, and the work is its own
+    pub tree-read : (w n k : ℕ) → r ≡ Whole w n k →
+        (tooDeep gives ≡ false) × (stoppedBy (lineEntries (arithmetic t) u) ≡ 0) × (length (words (lineEntries (arithmetic t) u)) ≡ w) × (length (settings (lineEntries (arithmetic t) u)) ≡ n) × (work u ≡ k)
+    tree-read w n k e = ⊎-elim (λ z. clash (cc (z .1, e))) (λ z. let m = whole-is (lineEntries (arithmetic t) u) _ _ _ (sym (z .1) ∙ e) in (z .0, m .0, m .1, m .2, m .3)) (by-depth gives old is-answer)
+
+    -- and a line that is stopped nests no deeper either, and is stopped by the number that the rules name, one of 5 to 7
+    pub tree-stopped : (k : ℕ) → r ≡ Stopped k → (tooDeep gives ≡ false) × (stoppedBy (lineEntries (arithmetic t) u) ≡ k) × Refusal k
+    tree-stopped k e = ⊎-elim (λ z. clash (cc (z .1, e))) (λ z. let m = stopped-is (lineEntries (arithmetic t) u) _ _ _ (sym (z .1) ∙ e) (line-stops t u) in (z .0, m .0, m .1)) (by-depth gives old is-answer)
 
     tree-not-wrong : (q : ℕ) → ¬ (r ≡ Wrong q)
-    tree-not-wrong q e = never-wrong (stopOf (lineEntries (arithmetic t) u)) _ _ (sym tree-answer ∙ e)
+    tree-not-wrong q e = ⊎-elim (λ z. clash (cc (z .1, e))) (λ z. never-wrong (stopOf (gives .entries)) _ _ _ (sym (z .1) ∙ e)) (by-depth gives old is-answer)
 
   -- a wrong form exactly where no tree derives the line
   pub wrong-none : (q : ℕ) → r ≡ Wrong q → (u : Line) → ¬ Derives u l

@@ -1,207 +1,278 @@
 -- The loops over the items: what is left to read makes of what is stored so far what the whole makes of what was there at first.
 -- Assumes nothing.
 use mathlib.Core.Path.{_≡_, refl, sym, ap, ap₂, _∙_}
-use mathlib.Core.Bool.{Bool, true, false}
-use mathlib.Core.List.{List}
-use Prim.Native.Nat.{ℕ, suc, _+_, _-_, _*_, _≤_, _<_}
+use mathlib.Core.Bool.{Bool, true, false, cond}
+use mathlib.Core.List.{List, [], _∷_}
+use Prim.Native.Nat.{ℕ, suc, _+_, _*_, _≤_, _<_}
 use native.Mathlib.Omega.{arith}
 use native.Mathlib.Numerals.{add-one}
+use lib.Dec.{ltb}
 use lib.IntN.{ℤ}
 use lib.ListN.{length, set}
-use Rattle.grammar.specs.Working.{Step, skip, give, stop, Took, after}
+use Rattle.grammar.specs.Grammar.{Item}
+use Rattle.grammar.specs.Work.{itemWork, itemsWork, itemDepth, itemsDepth}
+use Rattle.grammar.specs.Working.{Step, skip, give, stop, Took, stepOf, entries}
 use Rattle.grammar.proofs.Place.{Placed, wrong, found, mapP}
-use Rattle.grammar.proofs.Items.{itemsP, items-end}
+use Rattle.grammar.proofs.Trees.{itemT, itemsT, items-none}
 use Rattle.rules.specs.Meaning.{Entry, wordIs, settingIs, words, settings}
 use Rattle.rules.specs.declared.Value.{Value}
-use Rattle.reader.specs.Pass.{pass}
-use Rattle.reader.specs.Places.{itemAt}
+use Rattle.reader.specs.Pass.{guarded}
+use Rattle.reader.specs.Places.{speltTo}
+use Rattle.reader.specs.Levels.{itemAt}
 use Rattle.reader.specs.Reading.{Spaces, spaces, zeros, storedFrom, stored, stopOf, counted, Left, left}
-use Rattle.reader.specs.Gather.{checked, refused, ended, leftBy, tidied}
+use Rattle.reader.specs.Gather.{checked, ended, leftByItems, tidied}
+use Rattle.reader.specs.declared.spelling.Spelt.the-variants.{To, Not}
 use Rattle.reader.specs.declared.items.Item.the-variants.{Wrong, End}
-use Rattle.reader.specs.declared.line.Checked.{Checked}
 use Rattle.reader.specs.declared.line.Checked.the-variants.{Right, Wrong as Broken}
 use Rattle.reader.specs.declared.line.Reading.{Reading}
-use Rattle.reader.specs.declared.line.Reading.the-variants.{Read as Whole, Wrong as NoForm}
-use Rattle.reader.proofs.Passing.{Passed, at-wrong, past-end, passed-on, passed-weight, items-on, items-none}
+use Rattle.reader.specs.declared.line.Reading.the-variants.{Read as Whole, Stopped, Deep, Wrong as NoForm}
+use Rattle.reader.proofs.Evaluating.{ends-is, not-is}
+use Rattle.reader.proofs.Levels.{wide-fits, wide-over}
+use Rattle.reader.proofs.Passing.{Past, Taken, Deeper, at-wrong, past-end, past-on, taken-weight, items-on, items-broken}
 
 -- ---- the form alone
 
+checked-on : (j : Item) (m : Placed (List Item)) → checked m ≡ checked (mapP (λ l. j ∷ l) m)
+checked-on j (wrong p) = refl
+checked-on j (found e p) = refl
+
 -- the form of the items before i is right
-pub record Checking (t : List ℤ) (s : List ℕ) (at i : ℕ) : Type 0 where
+pub record Checking (s : List ℕ) (at i : ℕ) : Type 0 where
   pub within : i ≤ length s
-  pub same : checked (itemsP (pass t) s i) ≡ checked (itemsP (pass t) s at)
+  pub same : checked (itemsT s i) ≡ checked (itemsT s at)
 
-checked-on : (st : Step Entry) (m : Placed (Took Entry)) → checked (mapP (after st) m) ≡ checked m
-checked-on st (wrong p) = refl
-checked-on st (found e p) = refl
+module _ {s : List ℕ} {at i : ℕ} (q : Checking s at i) where
+  module _ (l : i < length s) where
+    past-item : {p : ℕ} (e : To p ≡ speltTo (itemT s i)) → Past s i (ends-is (itemT s i) e .thing) p
+    past-item e = record { inside = l; is = ends-is (itemT s i) e .is }
 
-module _ (t : List ℤ) (s : List ℕ) (at : ℕ) where
-  pub check-none : at ≤ length s → Checking t s at at
-  check-none l = record { within = l; same = refl }
+    pub check-on : {p : ℕ} → To p ≡ speltTo (itemT s i) → i < p
+    check-on e = past-on (past-item e) .0
 
-  module _ {i : ℕ} (q : Checking t s at i) where
-    pub check-more : {st : Step Entry} {p : ℕ} → Passed t s i st p → Checking t s at p
-    check-more {st} {p} k = record {
-      within = passed-on t s k .1;
-      same = sym (checked-on st (itemsP (pass t) s p)) ∙ ap checked (sym (items-on t s k)) ∙ q .same;
+    pub check-more : {p : ℕ} → To p ≡ speltTo (itemT s i) → Checking s at p
+    check-more {p} e = record {
+      within = past-on (past-item e) .1;
+      same = checked-on (ends-is (itemT s i) e .thing) (itemsT s p) ∙ ap (λ (m : Placed (List Item)). checked m) (sym (items-on (past-item e))) ∙ q .same;
     }
 
-    pub check-wrong : {p : ℕ} → Wrong p ≡ itemAt t s i → Broken p ≡ checked (itemsP (pass t) s at)
-    check-wrong e = let k = at-wrong t s i e in ap checked (sym (items-none t s i (k .0) (k .1))) ∙ q .same
+    pub check-wrong : {p : ℕ} → Not p ≡ speltTo (itemT s i) → Broken p ≡ checked (itemsT s at)
+    check-wrong e = ap (λ (m : Placed (List Item)). checked m) (sym (items-broken s i l (not-is (itemT s i) e))) ∙ q .same
 
-    pub check-end : End ≡ itemAt t s i → Right ≡ checked (itemsP (pass t) s at)
-    check-end e = ap checked (sym (items-end (pass t) s i (past-end t s i e))) ∙ q .same
+  pub check-end : length s ≤ i → Right ≡ checked (itemsT s at)
+  check-end l = ap (λ (m : Placed (List Item)). checked m) (sym (items-none s i l)) ∙ q .same
 
 -- ---- what is left, once so many words and settings are stored
 
-abbrev leftFrom : ℕ → ℕ → Placed (Took Entry) → Spaces → Left
-leftFrom w n (wrong p) sp = left (NoForm p) zeros
-leftFrom w n (found e p) sp = left (counted (stopOf e) (w + length (words e)) (n + length (settings e))) (storedFrom w n e sp)
+module _ (t : List ℤ) where
+  -- none of those read was refused, and none nests too deep
+  abbrev leftFrom : ℕ → ℕ → ℕ → Spaces → Placed (List Item) → Left
+  leftFrom w n k sp (wrong p) = left (NoForm p) zeros
+  leftFrom w n k sp (found is p) =
+      cond (ltb 24 (itemsDepth is)) (left Deep zeros)
+      (left (counted (stopOf (entries (guarded t) is)) (w + length (words (entries (guarded t) is))) (n + length (settings (entries (guarded t) is))) (k + itemsWork is)) (storedFrom w n (entries (guarded t) is) sp))
 
-from-none : (m : Placed (Took Entry)) (sp : Spaces) → leftFrom 0 0 m sp ≡ leftBy m sp
-from-none (wrong p) sp = refl
-from-none (found e p) sp =
+  -- one was refused with a number
+  abbrev leftStopped : ℕ → Spaces → Placed (List Item) → Left
+  leftStopped number sp (wrong p) = left (NoForm p) zeros
+  leftStopped number sp (found is p) = cond (ltb 24 (itemsDepth is)) (left Deep zeros) (left (Stopped number) sp)
+
+  -- one nests too deep
+  abbrev leftDeep : Placed (List Item) → Left
+  leftDeep (wrong p) = left (NoForm p) zeros
+  leftDeep (found is p) = left Deep zeros
+
+  abbrev leftAs : Bool → Bool → ℕ → ℕ → ℕ → ℕ → Spaces → Placed (List Item) → Left
+  leftAs deep stopped number w n k sp m = cond deep (leftDeep m) (cond stopped (leftStopped number sp m) (leftFrom w n k sp m))
+
+  -- ---- an item more
+
+  deep-on : (j : Item) (m : Placed (List Item)) → leftDeep m ≡ leftDeep (mapP (λ l. j ∷ l) m)
+  deep-on j (wrong p) = refl
+  deep-on j (found is p) = refl
+
+  module _ (j : Item) (f : ltb 24 (itemDepth j) ≡ false) where
+    stopped-on : (number : ℕ) (sp : Spaces) (m : Placed (List Item)) → leftStopped number sp m ≡ leftStopped number sp (mapP (λ l. j ∷ l) m)
+    stopped-on number sp (wrong p) = refl
+    stopped-on number sp (found is p) = rw (wide-fits 24 (itemDepth j) (itemsDepth is) f)
+
+    stop-here : (w n k number : ℕ) (sp : Spaces) (m : Placed (List Item)) → stepOf (guarded t) j ≡ stop number → leftStopped number sp m ≡ leftFrom w n k sp (mapP (λ l. j ∷ l) m)
+    stop-here w n k number sp (wrong p) g = refl
+    stop-here w n k number sp (found is p) g = rw (wide-fits 24 (itemDepth j) (itemsDepth is) f, g)
+
+    from-skip : (w n k : ℕ) (sp : Spaces) (m : Placed (List Item)) → stepOf (guarded t) j ≡ skip → itemWork j ≡ 0 → leftFrom w n k sp m ≡ leftFrom w n k sp (mapP (λ l. j ∷ l) m)
+    from-skip w n k sp (wrong p) g z = refl
+    from-skip w n k sp (found is p) g z =
+        let e : k + itemsWork is ≡ k + (itemWork j + itemsWork is) = omega arith in
+        rw (wide-fits 24 (itemDepth j) (itemsDepth is) f, g, e)
+
+    from-word : (w n k y b : ℕ) (v : ℤ) (sp : Spaces) (m : Placed (List Item)) → stepOf (guarded t) j ≡ give (wordIs b v) → itemWork j ≡ y →
+        leftFrom (w + 1) n (k + y) (spaces (set (sp .letters) w b) (set (sp .values) w v) (sp .numbers) (sp .amounts)) m ≡ leftFrom w n k sp (mapP (λ l. j ∷ l) m)
+    from-word w n k y b v sp (wrong p) g z = refl
+    from-word w n k y b v sp (found is p) g z =
+        let e = entries (guarded t) is in
+        let h : w + 1 + length (words e) ≡ w + suc (length (words e)) = omega arith in
+        let i : k + y + itemsWork is ≡ k + (itemWork j + itemsWork is) = omega arith in
+        rw (wide-fits 24 (itemDepth j) (itemsDepth is) f, g)
+        (ap (λ (x : Left). cond (ltb 24 (itemsDepth is)) (left Deep zeros) x)
+        (ap₂ left (ap₂ (λ (x y : ℕ). counted (stopOf e) x (n + length (settings e)) y) h i) (rw add-one)))
+
+    from-setting : (w n k y b : ℕ) (v : ℤ) (sp : Spaces) (m : Placed (List Item)) → stepOf (guarded t) j ≡ give (settingIs b v) → itemWork j ≡ y →
+        leftFrom w (n + 1) (k + y) (spaces (sp .letters) (sp .values) (set (sp .numbers) n b) (set (sp .amounts) n v)) m ≡ leftFrom w n k sp (mapP (λ l. j ∷ l) m)
+    from-setting w n k y b v sp (wrong p) g z = refl
+    from-setting w n k y b v sp (found is p) g z =
+        let e = entries (guarded t) is in
+        let h : n + 1 + length (settings e) ≡ n + suc (length (settings e)) = omega arith in
+        let i : k + y + itemsWork is ≡ k + (itemWork j + itemsWork is) = omega arith in
+        rw (wide-fits 24 (itemDepth j) (itemsDepth is) f, g)
+        (ap (λ (x : Left). cond (ltb 24 (itemsDepth is)) (left Deep zeros) x)
+        (ap₂ left (ap₂ (λ (x y : ℕ). counted (stopOf e) (w + length (words e)) x y) h i) (rw add-one)))
+
+  module _ (j : Item) (o : ltb 24 (itemDepth j) ≡ true) where
+    over-from : (w n k : ℕ) (sp : Spaces) (m : Placed (List Item)) → leftDeep m ≡ leftFrom w n k sp (mapP (λ l. j ∷ l) m)
+    over-from w n k sp (wrong p) = refl
+    over-from w n k sp (found is p) = rw (wide-over 24 (itemDepth j) (itemsDepth is) o)
+
+    over-stopped : (number : ℕ) (sp : Spaces) (m : Placed (List Item)) → leftDeep m ≡ leftStopped number sp (mapP (λ l. j ∷ l) m)
+    over-stopped number sp (wrong p) = refl
+    over-stopped number sp (found is p) = rw (wide-over 24 (itemDepth j) (itemsDepth is) o)
+
+from-none : (t : List ℤ) (m : Placed (List Item)) (sp : Spaces) → leftFrom t 0 0 0 sp m ≡ leftByItems t m sp
+from-none t (wrong p) sp = refl
+from-none t (found is p) sp =
+    let e = entries (guarded t) is in
     let h : 0 + length (words e) ≡ length (words e) = omega arith in
     let k : 0 + length (settings e) ≡ length (settings e) = omega arith in
-    ap (λ (x : Reading). left x (stored e sp)) (ap₂ (counted (stopOf e)) h k)
-
-module _ (w n : ℕ) (sp : Spaces) where
-  -- a word stored
-  from-word : (b : ℕ) (v : ℤ) (m : Placed (Took Entry)) →
-      leftFrom (w + 1) n m (spaces (set (sp .letters) w b) (set (sp .values) w v) (sp .numbers) (sp .amounts)) ≡ leftFrom w n (mapP (after (give (wordIs b v))) m) sp
-  from-word b v (wrong p) = refl
-  from-word b v (found e p) =
-      let h : w + 1 + length (words e) ≡ w + suc (length (words e)) = omega arith in
-      ap₂ left (ap (λ (x : ℕ). counted (stopOf e) x (n + length (settings e))) h) (rw add-one)
-
-  -- a setting stored
-  from-setting : (k : ℕ) (v : ℤ) (m : Placed (Took Entry)) →
-      leftFrom w (n + 1) m (spaces (sp .letters) (sp .values) (set (sp .numbers) n k) (set (sp .amounts) n v)) ≡ leftFrom w n (mapP (after (give (settingIs k v))) m) sp
-  from-setting k v (wrong p) = refl
-  from-setting k v (found e p) =
-      let h : n + 1 + length (settings e) ≡ n + suc (length (settings e)) = omega arith in
-      ap₂ left (ap (λ (x : ℕ). counted (stopOf e) (w + length (words e)) x) h) (rw add-one)
-
-  from-skip : (m : Placed (Took Entry)) → leftFrom w n m sp ≡ leftFrom w n (mapP (after skip) m) sp
-  from-skip (wrong p) = refl
-  from-skip (found e p) = refl
-
-  from-stop : (k : ℕ) (m : Placed (Took Entry)) → tidied (refused k (checked m)) sp ≡ leftFrom w n (mapP (after (stop k)) m) sp
-  from-stop k (wrong p) = refl
-  from-stop k (found e p) = refl
+    let i : 0 + itemsWork is ≡ itemsWork is = omega arith in
+    rw (h, k, i)
 
 -- ---- the loop that stores
 
--- the items before i are read: w words and n settings of them are stored, and none of them was refused
-pub record Gathering (t : List ℤ) (s : List ℕ) (at : ℕ) (old sp : Spaces) (w n i : ℕ) : Type 0 where
+-- the items before i are read: w words and n settings of them are stored, and k work was done
+pub record Gathered (t : List ℤ) (s : List ℕ) (at : ℕ) (old sp : Spaces) (w n k number i : ℕ) (deep stopped : Bool) : Type 0 where
   pub within : i ≤ length s
   pub few : 2 * w + 4 * n ≤ i
-  pub same : leftFrom w n (itemsP (pass t) s i) sp ≡ leftBy (itemsP (pass t) s at) old
+  pub most : k ≤ i
+  pub same : leftAs t deep stopped number w n k sp (itemsT s i) ≡ leftByItems t (itemsT s at) old
 
-module _ (t : List ℤ) (s : List ℕ) (at : ℕ) (old : Spaces) where
-  pub gather-none : at ≤ length s → Gathering t s at old old 0 0 at
-  gather-none l = record { within = l; few = omega arith; same = from-none (itemsP (pass t) s at) old }
+pub gather-none : (t : List ℤ) (s : List ℕ) (at : ℕ) (old : Spaces) → at ≤ length s → Gathered t s at old old 0 0 0 0 at false false
+gather-none t s at old l = record { within = l; few = omega arith; most = omega arith; same = from-none t (itemsT s at) old }
 
-  module _ (sp : Spaces) {w n i : ℕ} (q : Gathering t s at old sp w n i) where
-    -- past an item
-    on : {st : Step Entry} {p : ℕ} → Passed t s i st p → leftFrom w n (mapP (after st) (itemsP (pass t) s p)) sp ≡ leftBy (itemsP (pass t) s at) old
-    on k = ap (λ (m : Placed (Took Entry)). leftFrom w n m sp) (sym (items-on t s k)) ∙ q .same
+module _ {t : List ℤ} {s : List ℕ} {at : ℕ} {old sp : Spaces} {w n k number i : ℕ} {deep stopped : Bool} (q : Gathered t s at old sp w n k number i deep stopped) where
+  -- past an item
+  on : {j : Item} {p : ℕ} → Past s i j p → leftAs t deep stopped number w n k sp (mapP (λ l. j ∷ l) (itemsT s p)) ≡ leftByItems t (itemsT s at) old
+  on z = ap (λ (m : Placed (List Item)). leftAs t deep stopped number w n k sp m) (sym (items-on z)) ∙ q .same
 
-    module _ {b : ℕ} {v : Value} {p : ℕ} (k : Passed t s i (give (wordIs b (v .0))) p) where
-      pub room-for-word : length s ≤ 256 → w < 128
-      room-for-word l = omega (arith, q .few, passed-weight t s k, passed-on t s k)
+  module _ {b : ℕ} {v : Value} {y p : ℕ} (z : Taken t s i (give (wordIs b (v .0))) y p) where
+    pub room-for-word : length s ≤ 256 → w < 128
+    room-for-word l = omega (arith, q .few, taken-weight z, past-on (z .past))
 
-      pub gather-word : {letters : List ℕ} {values : List ℤ} → letters ≡ set (sp .letters) w b → values ≡ set (sp .values) w (v .0) →
-          Gathering t s at old (spaces letters values (sp .numbers) (sp .amounts)) (w + 1) n p
-      gather-word {letters} {values} el ev = record {
-        within = passed-on t s k .1;
-        few = omega (arith, q .few, passed-weight t s k);
-        same =
-            ap₂ (λ (x : List ℕ) (y : List ℤ). leftFrom (w + 1) n (itemsP (pass t) s p) (spaces x y (sp .numbers) (sp .amounts))) el ev
-            ∙ from-word w n sp b (v .0) (itemsP (pass t) s p)
-            ∙ on k;
-      }
-
-    module _ {m : ℕ} {v : Value} {p : ℕ} (k : Passed t s i (give (settingIs m (v .0))) p) where
-      pub room-for-setting : length s ≤ 256 → n < 64
-      room-for-setting l = omega (arith, q .few, passed-weight t s k, passed-on t s k)
-
-      pub gather-setting : {numbers : List ℕ} {amounts : List ℤ} → numbers ≡ set (sp .numbers) n m → amounts ≡ set (sp .amounts) n (v .0) →
-          Gathering t s at old (spaces (sp .letters) (sp .values) numbers amounts) w (n + 1) p
-      gather-setting {numbers} {amounts} en ea = record {
-        within = passed-on t s k .1;
-        few = omega (arith, q .few, passed-weight t s k);
-        same =
-            ap₂ (λ (x : List ℕ) (y : List ℤ). leftFrom w (n + 1) (itemsP (pass t) s p) (spaces (sp .letters) (sp .values) x y)) en ea
-            ∙ from-setting w n sp m (v .0) (itemsP (pass t) s p)
-            ∙ on k;
-      }
-
-    pub gather-comment : {p : ℕ} → Passed t s i skip p → Gathering t s at old sp w n p
-    gather-comment {p} k = record {
-      within = passed-on t s k .1;
-      few = omega (arith, q .few, passed-on t s k);
-      same = from-skip w n sp (itemsP (pass t) s p) ∙ on k;
+    pub gather-word : {letters : List ℕ} {values : List ℤ} → letters ≡ set (sp .letters) w b → values ≡ set (sp .values) w (v .0) → stopped ≡ false →
+        Gathered t s at old (spaces letters values (sp .numbers) (sp .amounts)) (w + 1) n (k + y) number p deep stopped
+    gather-word {letters} {values} el ev e = record {
+      within = past-on (z .past) .1;
+      few = omega (arith, q .few, taken-weight z);
+      most = omega (arith, q .most, taken-weight z);
+      same =
+          ap₂ (λ (x : List ℕ) (u : List ℤ). leftAs t deep stopped number (w + 1) n (k + y) (spaces x u (sp .numbers) (sp .amounts)) (itemsT s p)) el ev
+          ∙ rw e (ap₂ (λ (x u : Left). cond deep x u) (deep-on t (z .item) (itemsT s p)) (from-word t (z .item) (z .fits) w n k y b (v .0) sp (itemsT s p) (z .gives) (z .works)))
+          ∙ on (z .past);
     }
 
-    -- the ways out: what is stored is all there is to store, unless the form is wrong
-    pub gather-stop : {k p : ℕ} → Passed t s i (stop k) p → {c : Checked} {r : Reading} → c ≡ checked (itemsP (pass t) s p) → r ≡ refused k c →
-        tidied r sp ≡ leftBy (itemsP (pass t) s at) old
-    gather-stop {k} {p} h d e = ap (λ (x : Reading). tidied x sp) (e ∙ ap (refused k) d) ∙ from-stop w n sp k (itemsP (pass t) s p) ∙ on h
+  module _ {b : ℕ} {v : Value} {y p : ℕ} (z : Taken t s i (give (settingIs b (v .0))) y p) where
+    pub room-for-setting : length s ≤ 256 → n < 64
+    room-for-setting l = omega (arith, q .few, taken-weight z, past-on (z .past))
 
-    pub gather-wrong : {p : ℕ} → Wrong p ≡ itemAt t s i → tidied (NoForm p) sp ≡ leftBy (itemsP (pass t) s at) old
-    gather-wrong e =
-        let k = at-wrong t s i e in
-        ap (λ (m : Placed (Took Entry)). leftFrom w n m sp) (sym (items-none t s i (k .0) (k .1))) ∙ q .same
+    pub gather-setting : {numbers : List ℕ} {amounts : List ℤ} → numbers ≡ set (sp .numbers) n b → amounts ≡ set (sp .amounts) n (v .0) → stopped ≡ false →
+        Gathered t s at old (spaces (sp .letters) (sp .values) numbers amounts) w (n + 1) (k + y) number p deep stopped
+    gather-setting {numbers} {amounts} en ea e = record {
+      within = past-on (z .past) .1;
+      few = omega (arith, q .few, taken-weight z);
+      most = omega (arith, q .most, taken-weight z);
+      same =
+          ap₂ (λ (x : List ℕ) (u : List ℤ). leftAs t deep stopped number w (n + 1) (k + y) (spaces (sp .letters) (sp .values) x u) (itemsT s p)) en ea
+          ∙ rw e (ap₂ (λ (x u : Left). cond deep x u) (deep-on t (z .item) (itemsT s p)) (from-setting t (z .item) (z .fits) w n k y b (v .0) sp (itemsT s p) (z .gives) (z .works)))
+          ∙ on (z .past);
+    }
 
-    pub gather-end : End ≡ itemAt t s i → tidied (Whole w n) sp ≡ leftBy (itemsP (pass t) s at) old
-    gather-end e =
-        let h : w ≡ w + 0 = omega arith in
-        let j : n ≡ n + 0 = omega arith in
-        ap (λ (x : Reading). left x sp) (ap₂ Whole h j)
-        ∙ ap (λ (m : Placed (Took Entry)). leftFrom w n m sp) (sym (items-end (pass t) s i (past-end t s i e)))
-        ∙ q .same
+  -- the work so far can be added to
+  pub room-for-work : {st : Step Entry} {y p : ℕ} → Taken t s i st y p → k + y ≤ length s
+  room-for-work z = omega (arith, q .most, taken-weight z, past-on (z .past))
 
--- ---- the same loop past a refusal
+  -- past an item of right form that is not stored, since one before it was refused
+  pub gather-past : {st : Step Entry} {y p : ℕ} → Taken t s i st y p → stopped ≡ true → Gathered t s at old sp w n k number p deep stopped
+  gather-past {st} {y} {p} z e = record {
+    within = past-on (z .past) .1;
+    few = omega (arith, q .few, past-on (z .past));
+    most = omega (arith, q .most, past-on (z .past));
+    same = rw e (ap₂ (λ (x u : Left). cond deep x u) (deep-on t (z .item) (itemsT s p)) (stopped-on t (z .item) (z .fits) number sp (itemsT s p))) ∙ on (z .past);
+  }
 
--- an item before i was refused with number k, and nothing is stored from there on: the answer hangs on the form of the rest alone
-pub record Stopping (t : List ℤ) (s : List ℕ) (at : ℕ) (old sp : Spaces) (k i : ℕ) : Type 0 where
-  pub past : ℕ
-  pub form : Checking t s past i
-  pub gives : {c : Checked} {r : Reading} → c ≡ checked (itemsP (pass t) s past) → r ≡ refused k c → tidied r sp ≡ leftBy (itemsP (pass t) s at) old
+  -- past a comment
+  pub gather-comment : {p : ℕ} → Taken t s i skip 0 p → Gathered t s at old sp w n k number p deep stopped
+  gather-comment {p} z = record {
+    within = past-on (z .past) .1;
+    few = omega (arith, q .few, past-on (z .past));
+    most = omega (arith, q .most, past-on (z .past));
+    same =
+        ap₂ (λ (x u : Left). cond deep x u) (deep-on t (z .item) (itemsT s p))
+        (ap₂ (λ (x u : Left). cond stopped x u) (stopped-on t (z .item) (z .fits) number sp (itemsT s p)) (from-skip t (z .item) (z .fits) w n k sp (itemsT s p) (z .gives) (z .works)))
+        ∙ on (z .past);
+  }
 
--- the items before i are read: none of them was refused, or one was
-pub data Gathered (t : List ℤ) (s : List ℕ) (at : ℕ) (old sp : Spaces) (w n k i : ℕ) : Bool → Type 0 where
-  going : Gathering t s at old sp w n i → Gathered t s at old sp w n k i false
-  stopping : Stopping t s at old sp k i → Gathered t s at old sp w n k i true
+  -- past one that is refused: the first that is counts
+  pub gather-stop : {m y p first : ℕ} → Taken t s i (stop m) y p → first ≡ cond stopped number m → Gathered t s at old sp w n k first p deep true
+  gather-stop {m} {y} {p} {first} z e = record {
+    within = past-on (z .past) .1;
+    few = omega (arith, q .few, past-on (z .past));
+    most = omega (arith, q .most, past-on (z .past));
+    same = ap (λ (x : ℕ). leftAs t deep true x w n k sp (itemsT s p)) e ∙ go stopped ∙ on (z .past);
+  }
+    where
+      go : (c : Bool) → leftAs t deep true (cond c number m) w n k sp (itemsT s p) ≡ leftAs t deep c number w n k sp (mapP (λ l. z .item ∷ l) (itemsT s p))
+      go true = ap₂ (λ (x u : Left). cond deep x u) (deep-on t (z .item) (itemsT s p)) (stopped-on t (z .item) (z .fits) number sp (itemsT s p))
+      go false = ap₂ (λ (x u : Left). cond deep x u) (deep-on t (z .item) (itemsT s p)) (stop-here t (z .item) (z .fits) w n k m sp (itemsT s p) (z .gives))
 
-module _ (t : List ℤ) (s : List ℕ) (at : ℕ) (old sp : Spaces) {w n i : ℕ} where
-  pub going-on : {k : ℕ} {c : Bool} → c ≡ false → Gathering t s at old sp w n i → Gathered t s at old sp w n k i c
-  going-on e q = rw e (going q)
+  -- the same counts by another name
+  pub recounted : {x y : ℕ} → x ≡ w → y ≡ n → Gathered t s at old sp x y k number i deep stopped
+  recounted e d = rw (e, d) q
 
-  pub stop-now : Gathering t s at old sp w n i → {k p : ℕ} → Passed t s i (stop k) p → Gathered t s at old sp w n k p true
-  stop-now q {k} {p} h = stopping (record { past = p; form = check-none t s p (passed-on t s h .1); gives = λ d e. gather-stop t s at old sp q h d e })
+  -- past one that nests too deep
+  pub gather-deep : {p : ℕ} → Deeper s i p → Gathered t s at old sp w n k number p true stopped
+  gather-deep {p} z = record {
+    within = past-on (z .past) .1;
+    few = omega (arith, q .few, past-on (z .past));
+    most = omega (arith, q .most, past-on (z .past));
+    same = go deep stopped ∙ on (z .past);
+  }
+    where
+      go : (d c : Bool) → leftDeep t (itemsT s p) ≡ leftAs t d c number w n k sp (mapP (λ l. z .item ∷ l) (itemsT s p))
+      go true c = deep-on t (z .item) (itemsT s p)
+      go false true = over-stopped t (z .item) (z .over) number sp (itemsT s p)
+      go false false = over-from t (z .item) (z .over) w n k sp (itemsT s p)
 
-  module _ {k : ℕ} where
-    stop-more : Stopping t s at old sp k i → {st : Step Entry} {p : ℕ} → Passed t s i st p → Gathered t s at old sp w n k p true
-    stop-more q h = stopping (record { past = q .past; form = check-more t s (q .past) (q .form) h; gives = q .gives })
+  -- the ways out
+  pub gather-wrong : {p : ℕ} → Wrong p ≡ itemAt t s i → tidied (NoForm p) sp ≡ leftByItems t (itemsT s at) old
+  gather-wrong {p} e =
+      let z = at-wrong t s i e in
+      go deep stopped ∙ ap (λ (m : Placed (List Item)). leftAs t deep stopped number w n k sp m) (sym (items-broken s i (z .0) (z .1))) ∙ q .same
+    where
+      go : (d c : Bool) → left (NoForm p) zeros ≡ leftAs t d c number w n k sp (wrong p)
+      go true c = refl
+      go false true = refl
+      go false false = refl
 
-    pub not-stopped : {c : Bool} → c ≡ false → Gathered t s at old sp w n k i c → Gathering t s at old sp w n i
-    not-stopped e (going q) = q
-    not-stopped e (stopping q) = absurd (let z : _≡_ {A = ℕ} 0 1 = cc in omega arith)
-
-    pub still-stopped : {c : Bool} → c ≡ true → Gathered t s at old sp w n k i c → {st : Step Entry} {p : ℕ} → Passed t s i st p → Gathered t s at old sp w n k p c
-    still-stopped e (going q) h = absurd (let z : _≡_ {A = ℕ} 0 1 = cc in omega arith)
-    still-stopped e (stopping q) h = stop-more q h
-
-    pub past-comment : {c : Bool} → Gathered t s at old sp w n k i c → {p : ℕ} → Passed t s i skip p → Gathered t s at old sp w n k p c
-    past-comment (going q) h = going (gather-comment t s at old sp q h)
-    past-comment (stopping q) h = stop-more q h
-
-    pub at-wrong-form : {c : Bool} → Gathered t s at old sp w n k i c → {p : ℕ} → Wrong p ≡ itemAt t s i → tidied (NoForm p) sp ≡ leftBy (itemsP (pass t) s at) old
-    at-wrong-form (going q) e = gather-wrong t s at old sp q e
-    at-wrong-form (stopping q) e = q .gives (check-wrong t s (q .past) (q .form) e) refl
-
-    pub at-end : {c : Bool} → Gathered t s at old sp w n k i c → End ≡ itemAt t s i → tidied (ended c k w n) sp ≡ leftBy (itemsP (pass t) s at) old
-    at-end (going q) e = gather-end t s at old sp q e
-    at-end (stopping q) e = q .gives (check-end t s (q .past) (q .form) e) refl
+  pub gather-end : End ≡ itemAt t s i → {r : Reading} → r ≡ ended deep stopped number w n k → tidied r sp ≡ leftByItems t (itemsT s at) old
+  gather-end e {r} d =
+      ap (λ (x : Reading). tidied x sp) d
+      ∙ go deep stopped
+      ∙ ap (λ (m : Placed (List Item)). leftAs t deep stopped number w n k sp m) (sym (items-none s i (past-end t s i e)))
+      ∙ q .same
+    where
+      go : (d c : Bool) → tidied (ended d c number w n k) sp ≡ leftAs t d c number w n k sp (found [] (length s))
+      go true c = refl
+      go false true = refl
+      go false false =
+          let x : w ≡ w + 0 = omega arith in
+          let y : n ≡ n + 0 = omega arith in
+          let z : k ≡ k + 0 = omega arith in
+          ap (λ (u : ℕ). left (Whole u n k) sp) x ∙ ap (λ (u : ℕ). left (Whole (w + 0) u k) sp) y ∙ ap (λ (u : ℕ). left (Whole (w + 0) (n + 0) u) sp) z

@@ -3,6 +3,8 @@ pub mod Spellings
 pub mod Decimals
 pub mod Numerals
 pub mod Evaluating
+pub mod Skimming
+pub mod Levels
 pub mod Itemising
 pub mod Carrying
 pub mod Passing

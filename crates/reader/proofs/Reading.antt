@@ -13,6 +13,7 @@ use lib.ListN.{length, take, drop, length-append}
 use lib.Seq.{take-at}
 use Rattle.grammar.specs.Grammar.{Line}
 use Rattle.grammar.specs.Derivation.{strip, Derives, ByForm}
+use Rattle.grammar.specs.Work.{work, depth}
 use Rattle.grammar.specs.Working.{Took, lineEntries}
 use Rattle.grammar.proofs.Read.{Read, fail, got, mapR, readLine}
 use Rattle.grammar.proofs.LineBack.{line-back}
@@ -20,14 +21,15 @@ use Rattle.grammar.proofs.Lengths.{strip-length}
 use Rattle.grammar.proofs.OnePass.{line-same}
 use Rattle.grammar.proofs.Place.{Placed, wrong, found, place}
 use Rattle.grammar.proofs.Items.{lineP}
+use Rattle.grammar.proofs.Trees.{lineT}
 use Rattle.grammar.proofs.ByForm.{by-pass, byLine}
-use Rattle.rules.specs.Meaning.{Entry, arithmetic}
+use Rattle.rules.specs.Meaning.{Entry}
 use Rattle.rules.specs.Promise.{panel}
 use Rattle.reader.specs.Pass.{pass, guarded}
 use Rattle.text.specs.Prepare.{bytesOf, prepared}
 use Rattle.reader.specs.Underived.{FirstWrong}
-use Rattle.reader.specs.Reading.{Spaces, left, Reads}
-use Rattle.reader.specs.Gather.{checked, leftBy}
+use Rattle.reader.specs.Reading.{Spaces, leftFor, leaves, left, Reads}
+use Rattle.reader.specs.Gather.{checked, leftByLine}
 use Rattle.text.specs.declared.Prepared.the-variants.{Bytes, TooLong as NoRoom}
 use Rattle.reader.specs.declared.line.Checked.{Checked}
 use Rattle.reader.specs.declared.line.Checked.the-variants.{Right, Wrong as Broken}
@@ -101,8 +103,15 @@ module _ (t : List ℤ) (l : List ℕ) where
     read-back : readLine (strip l) ≡ got u []
     read-back = rw (d .writes, line-back u (d .ok))
 
-    line-found : lineP (pass t) (strip l) ≡ found (lineEntries (arithmetic t) u) (length (strip l) - 0)
-    line-found = by-line t (strip l) ∙ ap (λ (m : Read Line). place (strip l) (mapR (lineEntries (guarded t)) m)) read-back ∙ ap (λ (e : Took Entry). found e (length (strip l) - 0)) (guarded-line t u)
+    line-found : lineT (strip l) ≡ found u (length (strip l) - 0)
+    unfolding lineT
+    line-found = ap (place (strip l)) read-back
+
+    -- the code's arithmetic gives what the rules' gives
+    line-leaves : (old : Spaces) → leftByLine t (lineT (strip l)) old ≡ leaves t old u
+    line-leaves old =
+        ap (λ (m : Placed Line). leftByLine t m old) line-found
+        ∙ ap (λ (e : Took Entry). leftFor (record { entries = e; work = work u; depth = depth u }) old) (guarded-line t u)
 
   -- a line that has no derivation
   module _ (none-at-all : (u : Line) → ¬ Derives u l) where
@@ -117,26 +126,27 @@ module _ (t : List ℤ) (l : List ℕ) where
     record Stuck : Type 0 where
       place : ℕ
       first : FirstWrong (strip l) place
-      is : lineP (pass t) (strip l) ≡ wrong place
+      is : lineT (strip l) ≡ wrong place
 
     line-stuck : Stuck
+    unfolding lineT
     line-stuck =
         let k = none-fails in
-        record { place = length (strip l) - length (k .0); first = first-wrong (strip l) (k .0) (k .1); is = by-line t (strip l) ∙ rw (k .1) }
+        record { place = length (strip l) - length (k .0); first = first-wrong (strip l) (k .0) (k .1); is = ap (place (strip l)) (k .1) }
 
 -- ---- the two promises
 
 -- a line of at most 256 bytes, read as the model reads it
 pub reads-by-form : (t : List ℤ) (l : List ℕ) (old : Spaces) {text : List ℕ} {r : Reading} {sp : Spaces} → length l ≤ 256 → text ≡ strip l →
-    left r sp ≡ leftBy (lineP (pass t) text) old → Reads l t old r sp
+    left r sp ≡ leftByLine t (lineT text) old → Reads l t old r sp
 reads-by-form t l old {text} {r} {sp} h f e =
-    let k : left r sp ≡ leftBy (lineP (pass t) (strip l)) old = e ∙ ap (λ (x : List ℕ). leftBy (lineP (pass t) x) old) f in
+    let k : left r sp ≡ leftByLine t (lineT (strip l)) old = e ∙ ap (λ (x : List ℕ). leftByLine t (lineT x) old) f in
     record {
       byLength = λ g. absurd (omega arith);
-      byTree = λ _ u d. k ∙ ap (λ (m : Placed (Took Entry)). leftBy m old) (line-found t l d);
+      byTree = λ _ u d. k ∙ line-leaves t l d old;
       byNone = λ _ n.
           let w = line-stuck t l n in
-          record { place = w .place; first = w .first; is = k ∙ ap (λ (m : Placed (Took Entry)). leftBy m old) (w .is) };
+          record { place = w .place; first = w .first; is = k ∙ ap (λ (m : Placed Line). leftByLine t m old) (w .is) };
     }
 
 -- a longer one
@@ -148,12 +158,14 @@ abbrev numbered : Checked → ℕ
 numbered Right = 0
 numbered (Broken p) = 3
 
-pub form-by-form : (t : List ℤ) (l : List ℕ) {text : List ℕ} {c : Checked} → length l ≤ 256 → text ≡ strip l → c ≡ checked (lineP (pass t) text) → ByForm l (panel l) (numbered c)
+pub form-by-form : (l : List ℕ) {text : List ℕ} {c : Checked} → length l ≤ 256 → text ≡ strip l → c ≡ checked (lineT text) → ByForm l (panel l) (numbered c)
 unfolding panel
-form-by-form t l {text} {c} h f e = record {
-  byTree = λ u d. ap numbered (e ∙ ap (λ (x : List ℕ). checked (lineP (pass t) x)) f ∙ ap checked (line-found t l d)) ∙ rw (le-ltb 256 (length l) h);
-  byNone = λ n. ap numbered (e ∙ ap (λ (x : List ℕ). checked (lineP (pass t) x)) f ∙ ap checked (line-stuck t l n .is)) ∙ rw (le-ltb 256 (length l) h);
-}
+form-by-form l {text} {c} h f e =
+    let k : c ≡ checked (lineT (strip l)) = e ∙ ap (λ (x : List ℕ). checked (lineT x)) f in
+    record {
+      byTree = λ u d. ap numbered (k ∙ ap (λ (m : Placed Line). checked m) (line-found [] l d)) ∙ rw (le-ltb 256 (length l) h);
+      byNone = λ n. ap numbered (k ∙ ap (λ (m : Placed Line). checked m) (line-stuck [] l n .is)) ∙ rw (le-ltb 256 (length l) h);
+    }
 
 pub long-form : (l : List ℕ) → 256 < length l → ByForm l (panel l) 2
 unfolding panel

@@ -5,7 +5,7 @@ use mathlib.Core.Bool.{cond}
 use mathlib.Core.List.{List}
 use lib.IntN.{ℤ}
 use Rattle.grammar.specs.Working.{Arithmetic, high}
-use Rattle.grammar.proofs.Terms.{Pass}
+use Rattle.grammar.proofs.Terms.{Pass, byLevels}
 use Rattle.grammar.specs.declared.Op.{Op}
 use Rattle.rules.specs.Meaning.{Entry, numberOf, wordOf, settingOf}
 use Rattle.rules.specs.declared.Worked.{Worked}
@@ -20,6 +20,7 @@ guarded table = record {
   numberOf = numberOf;
   lookup = lookup table;
   apply = apply;
+  enclose = λ a. a;
   work = work;
   wordOf = wordOf;
   settingOf = settingOf;
@@ -41,7 +42,7 @@ pushed st o right =
 
 -- the pass, with what makes it one
 abbrev pub pass : (table : List ℤ) → Pass (guarded table) State
-pass table = record {
+pass table = byLevels (record {
   fresh = begun;
   pushed = pushed;
   term = λ st. st .term;
@@ -52,4 +53,4 @@ pass table = record {
   high-settle = λ st o b right e. rw e;
   low-term = λ st o b e. rw e;
   low-settle = λ st o b right e. rw e;
-}
+})

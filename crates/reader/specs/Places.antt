@@ -4,21 +4,16 @@ use mathlib.Core.Path.{_≡_}
 use mathlib.Core.Bool.{Bool, false, cond}
 use mathlib.Core.List.{List, [], _∷_}
 use Prim.Native.Nat.{ℕ, _+_, _-_, _*_, _≤_, min}
-use lib.Dec.{eqb, ltb}
-use lib.IntN.{ℤ}
+use lib.Dec.{eqb}
 use lib.ListN.{length, drop}
 use Rattle.grammar.specs.Bytes.{byte}
-use Rattle.grammar.specs.Grammar.{digit, remark, Sign, Label}
-use Rattle.grammar.specs.Working.{Step, skip, give, stop}
+use Rattle.grammar.specs.Grammar.{digit, remark, Sign}
 use Rattle.grammar.proofs.Read.{got, readSign, takeWhile, Head, hash, bare, call, Tail, close, oper}
 use Rattle.grammar.proofs.Place.{Placed, wrong, found}
-use Rattle.grammar.proofs.Items.{itemP}
-use Rattle.rules.specs.Meaning.{decimal, negative, Entry, wordIs, settingIs, wordOf, settingOf}
-use Rattle.arithmetic.specs.Guarded.{apply, lookup}
+use Rattle.rules.specs.Meaning.{decimal, negative}
 use Rattle.grammar.specs.declared.Op.{Op}
 use Rattle.grammar.specs.declared.Func.{Func}
 use Rattle.rules.specs.declared.Worked.{Worked}
-use Rattle.reader.specs.Pass.{pass}
 use Rattle.reader.specs.declared.values.Valued.{Valued}
 use Rattle.reader.specs.declared.values.Valued.the-variants.{To as Came, Wrong as NoValue}
 use Rattle.reader.specs.declared.spelling.Spelt.{Spelt}
@@ -29,13 +24,11 @@ use Rattle.reader.specs.declared.spelling.Following.{Following}
 use Rattle.reader.specs.declared.spelling.Following.the-variants.{Close, Operator, Wrong as NoFollowing}
 use Rattle.reader.specs.declared.numbers.Signed.{Signed}
 use Rattle.reader.specs.declared.numbers.Digits.{Digits}
-use Rattle.reader.specs.declared.items.Item.{Item}
-use Rattle.reader.specs.declared.items.Item.the-variants.{Word, Setting, Comment, Stop, Wrong, End}
 
 -- ---- spellings
 
--- past a spelling, or where it breaks off
-abbrev pub speltTo : Placed (Unit {0}) → Spelt
+-- past a spelling or a tree, or where its form is wrong
+abbrev pub speltTo : {X : Type 0} → Placed X → Spelt
 speltTo (wrong p) = Not p
 speltTo (found _ p) = To p
 
@@ -91,60 +84,18 @@ pub record DigitsAt (s : List ℕ) (at number : ℕ) (r : Digits) : Type 0 where
   pub writes : r .number ≡ min 10000000000 (decimal number (takeWhile digit (drop at s)))
   pub past : r .next ≡ at + length (takeWhile digit (drop at s))
 
--- ---- values
-
--- what a value came to and the place past it, or where its form is wrong
+-- what a number came to and the place past it, or where its form is wrong
 abbrev pub valued : Placed Worked → Valued
 valued (wrong p) = NoValue p
 valued (found a p) = Came a p
 
--- the entry that a value names
-abbrev pub lookedUp : List ℤ → Valued → Valued
-lookedUp table (Came a p) = Came (lookup table a) p
-lookedUp table (NoValue p) = NoValue p
-
--- a function of a value
-abbrev pub appliedTo : Func → Valued → Valued
-appliedTo f (Came a p) = Came (apply f a) p
-appliedTo f (NoValue p) = NoValue p
-
--- ---- items
-
--- what an item gives, and the place past it
-abbrev pub itemBy : Step Entry → ℕ → Item
-itemBy skip p = Comment p
-itemBy (give (wordIs b v)) p = Word b (record { 0 = v }) p
-itemBy (give (settingIs n v)) p = Setting n (record { 0 = v }) p
-itemBy (stop n) p = Stop n p
-
-abbrev pub itemIs : Placed (Step Entry) → Item
-itemIs (wrong p) = Wrong p
-itemIs (found i p) = itemBy i p
-
--- a word with its value, and a setting with its two
-abbrev pub wordItem : ℕ → Valued → Item
-wordItem b (Came a p) = itemBy (wordOf b a) p
-wordItem b (NoValue p) = Wrong p
-
-abbrev pub settingItem : Worked → Worked → ℕ → Item
-settingItem number amount p = itemBy (settingOf number amount) p
+-- ---- comments, and the line's beginning
 
 -- past the bytes that may stand inside a comment
 abbrev pub remarksEnd : List ℕ → ℕ → ℕ
 remarksEnd s at = at + length (takeWhile remark (drop at s))
 
--- the item at a place of the prepared line s, or the line's end
-unfoldable pub itemAt : List ℤ → List ℕ → ℕ → Item
-itemAt table s at = cond (ltb at (length s)) (itemIs (itemP (pass table) s at)) End
-
--- ---- the line's beginning
-
 -- past `/`
 abbrev pub slashEnd : List ℕ → ℕ
 slashEnd [] = 0
 slashEnd (b ∷ s) = cond (eqb (byte "/") b) 1 0
-
--- past N and its digits
-abbrev pub labelEnd : Placed Label → Spelt
-labelEnd (wrong p) = Not p
-labelEnd (found l p) = To p

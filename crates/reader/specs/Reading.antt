@@ -1,6 +1,7 @@
 -- What `read` leaves: its answer, and what each lent space holds. It is said by the derivation of the line, or by its having none.
 -- Assumes nothing.
 use mathlib.Core.Path.{_≡_}
+use mathlib.Core.Bool.{cond}
 use mathlib.Core.List.{List, map}
 use mathlib.Core.Option.{Option, none, some}
 use Prim.Native.Nat.{ℕ, _≤_, _<_}
@@ -9,11 +10,12 @@ use lib.ListN.{length, replicate}
 use lib.Seq.{sets}
 use Rattle.grammar.specs.Grammar.{Line}
 use Rattle.grammar.specs.Derivation.{strip, Derives}
-use Rattle.grammar.specs.Working.{Took, end, stopped, took, lineEntries}
+use Rattle.grammar.specs.Working.{Took, end, stopped, took, Contents, contents}
 use Rattle.rules.specs.Meaning.{Entry, Said, Setting, arithmetic, words, settings}
+use Rattle.rules.specs.Promise.{tooDeep}
 use Rattle.reader.specs.Underived.{FirstWrong}
 use Rattle.reader.specs.declared.line.Reading.{Reading}
-use Rattle.reader.specs.declared.line.Reading.the-variants.{Read as Whole, Stopped, Wrong, TooLong}
+use Rattle.reader.specs.declared.line.Reading.the-variants.{Read as Whole, Stopped, Deep, Wrong, TooLong}
 
 -- ---- the lent spaces
 
@@ -53,14 +55,14 @@ stopOf end = none
 stopOf (stopped n) = some n
 stopOf (took e t) = stopOf t
 
--- so many words and settings, unless the reading was stopped
-abbrev pub counted : Option ℕ → ℕ → ℕ → Reading
-counted none w n = Whole w n
-counted (some k) w n = Stopped k
+-- so many words and settings and so much work, unless the reading was stopped
+abbrev pub counted : Option ℕ → ℕ → ℕ → ℕ → Reading
+counted none w n k = Whole w n k
+counted (some m) w n k = Stopped m
 
--- the answer for what was read
-abbrev pub outcome : Took Entry → Reading
-outcome e = counted (stopOf e) (length (words e)) (length (settings e))
+-- the answer for what was read, by so much work
+abbrev pub outcome : Took Entry → ℕ → Reading
+outcome e k = counted (stopOf e) (length (words e)) (length (settings e)) k
 
 -- ---- all that a call leaves
 
@@ -73,9 +75,13 @@ pub record Left : Type 0 where
 abbrev pub left : Reading → Spaces → Left
 left answer lent = record { answer = answer; lent = lent }
 
--- for a line that a tree derives: the answer for the tree's words and settings, and these stored
+-- for what a derivation gives: where it nests too deep, that alone; and else the answer for its words and settings and its work, and these stored
+abbrev pub leftFor : Contents Entry → Spaces → Left
+leftFor c old = cond (tooDeep c) (left Deep zeros) (left (outcome (c .entries) (c .work)) (stored (c .entries) old))
+
+-- for a line that a tree derives
 abbrev pub leaves : List ℤ → Spaces → Line → Left
-leaves table old t = left (outcome (lineEntries (arithmetic table) t)) (stored (lineEntries (arithmetic table) t) old)
+leaves table old t = leftFor (contents (arithmetic table) t) old
 
 -- for prepared bytes that no tree writes: the first place that is wrong, and nothing of what was read by then
 pub record LeavesNone (s : List ℕ) (answer : Reading) (lent : Spaces) : Type 0 where

@@ -2,7 +2,7 @@
 // and thin: the work is `item_at`'s, which takes the bytes and the place as they are.
 ghost use mathlib.Core.Path.{_≡_};
 ghost use Rattle.reader.specs.Cursor.{readerAt};
-ghost use Rattle.reader.specs.Places.{itemAt};
+ghost use Rattle.reader.specs.Levels.{itemAt};
 use super::items::Item;
 use super::items::item_at;
 

@@ -1,28 +1,29 @@
 // The items of a prepared line, one at a time and by value: nothing is stored here.
 ghost use mathlib.Core.Path.{_≡_};
-ghost use mathlib.Core.List.{[]};
-ghost use Prim.Native.Nat.{_≤_};
+ghost use Prim.Native.Nat.{_≤_, _<_};
 ghost use lib.ListN.{length};
 ghost use Rattle.grammar.specs.Grammar.{letter, remark};
-ghost use Rattle.grammar.proofs.Items.{settingP, commentP};
-ghost use Rattle.reader.specs.Pass.{pass};
-ghost use Rattle.reader.specs.Places.{itemIs, itemAt, wordItem, settingItem, remarksEnd};
+ghost use Rattle.grammar.proofs.Trees.{settingT, commentT, itemT};
+ghost use Rattle.reader.specs.Places.{speltTo, remarksEnd};
+ghost use Rattle.reader.specs.Levels.{amountT, ofItem, itemAt, wordItem, settingItem, deepItem, commentItem};
+use super::passage::pass_value;
 use super::spelling::Spelt;
 use super::spelling::keyword;
-use super::values::Valued;
+use super::values::Nested;
 use super::values::value_at;
 use rules::Parameter;
 use rules::Value;
 use rules::Worked;
 
-// One item, each with the place past it: a word's letter and value; a setting's parameter number and
-// value; a comment; or an item of right form that is refused with a number, 5 to 7. Or the place where
-// the form is wrong; or the line's end.
+// One item, each with the place past it: a word's letter, value and work; a setting's parameter number,
+// value and work; a comment; an item of right form that is refused with a number, 5 to 7; or one of right
+// form that nests too deep. Or the place where the form is wrong; or the line's end.
 pub(crate) enum Item {
-    Word(u8, Value, usize),
-    Setting(usize, Value, usize),
+    Word(u8, Value, u64, usize),
+    Setting(usize, Value, u64, usize),
     Comment(usize),
     Stop(u8, usize),
+    Deep(usize),
     Wrong(usize),
     End,
 }
@@ -63,26 +64,27 @@ fn is_remark(b: u8) -> bool
     }
 }
 
-fn word_item(letter: u8, value: Valued) -> Item
+fn word_item(letter: u8, value: Nested) -> Item
     ensures { λ r. ⌜ r ≡ wordItem letter value ⌝ }
 {
     match value {
-        Valued::To(worked, next) => match worked {
-            Worked::Good(v) => Item::Word(letter, v, next),
+        Nested::To(worked, work, next) => match worked {
+            Worked::Good(v) => Item::Word(letter, v, work, next),
             Worked::Bad(n) => Item::Stop(n, next),
         },
-        Valued::Wrong(p) => Item::Wrong(p),
+        Nested::Deep(next) => Item::Deep(next),
+        Nested::Wrong(p) => Item::Wrong(p),
     }
 }
 
 // The parameter number is judged before the value: it was worked out first.
-fn setting_item(number: Worked, amount: Worked, next: usize) -> Item
-    ensures { λ r. ⌜ r ≡ settingItem number amount next ⌝ }
+fn setting_item(number: Worked, amount: Worked, work: u64, next: usize) -> Item
+    ensures { λ r. ⌜ r ≡ settingItem number amount work next ⌝ }
 {
     match number {
         Worked::Good(v) => match value::parameter(v) {
             Parameter::Number(i) => match amount {
-                Worked::Good(w) => Item::Setting(i, w, next),
+                Worked::Good(w) => Item::Setting(i, w, work, next),
                 Worked::Bad(n) => Item::Stop(n, next),
             },
             Parameter::Outside => Item::Stop(7, next),
@@ -91,20 +93,43 @@ fn setting_item(number: Worked, amount: Worked, next: usize) -> Item
     }
 }
 
-// A setting after its `#`.
+// An item that nests too deep, once its form is judged.
+fn deep_item(end: Spelt) -> Item
+    ensures { λ r. ⌜ r ≡ deepItem end ⌝ }
+{
+    match end {
+        Spelt::To(next) => Item::Deep(next),
+        Spelt::Not(p) => Item::Wrong(p),
+    }
+}
+
+// Past `=` and a setting's value.
+fn amount_end(text: &[u8], at: usize) -> Spelt
+    requires { ⌜ at ≤ length (now text) ⌝ }
+    ensures { λ r. ⌜ r ≡ speltTo (amountT (now (text .entry)) at) ⌝ }
+{
+    match keyword(text, at, b"=") {
+        Spelt::To(p) => pass_value(text, p),
+        Spelt::Not(p) => Spelt::Not(p),
+    }
+}
+
+// A setting after its `#`. That `#` is no part of what nests in its two values.
 fn setting_at(text: &[u8], table: &[i64], at: usize) -> Item
     requires { ⌜ at ≤ length (now text) ⌝ }
-    ensures { λ r. ⌜ r ≡ itemIs (settingP (pass (now (table .entry))) (now (text .entry)) at) ⌝ }
+    ensures { λ r. ⌜ r ≡ ofItem (now (table .entry)) 24 (settingT (now (text .entry)) at) ⌝ }
 {
     match value_at(text, table, at) {
-        Valued::To(number, p) => match keyword(text, p, b"=") {
+        Nested::To(number, work, p) => match keyword(text, p, b"=") {
             Spelt::To(q) => match value_at(text, table, q) {
-                Valued::To(amount, next) => setting_item(number, amount, next),
-                Valued::Wrong(e) => Item::Wrong(e),
+                Nested::To(amount, more, next) => setting_item(number, amount, work + more, next),
+                Nested::Deep(next) => Item::Deep(next),
+                Nested::Wrong(e) => Item::Wrong(e),
             },
             Spelt::Not(q) => Item::Wrong(q),
         },
-        Valued::Wrong(p) => Item::Wrong(p),
+        Nested::Deep(p) => deep_item(amount_end(text, p)),
+        Nested::Wrong(p) => Item::Wrong(p),
     }
 }
 
@@ -124,12 +149,18 @@ fn remarks_end(text: &[u8], at: usize) -> usize
     i
 }
 
-// A comment after its `(`. No value stands in one, so no table is asked for.
-fn comment_at(text: &[u8], at: usize) -> Item
+// The place past a comment, after its `(`.
+fn comment_end(text: &[u8], at: usize) -> Spelt
     requires { ⌜ at ≤ length (now text) ⌝ }
-    ensures { λ r. ⌜ r ≡ itemIs (commentP (pass []) (now (text .entry)) at) ⌝ }
+    ensures { λ r. ⌜ r ≡ speltTo (commentT (now (text .entry)) at) ⌝ }
 {
-    match keyword(text, remarks_end(text, at), b")") {
+    keyword(text, remarks_end(text, at), b")")
+}
+
+fn comment_item(end: Spelt) -> Item
+    ensures { λ r. ⌜ r ≡ commentItem end ⌝ }
+{
+    match end {
         Spelt::To(next) => Item::Comment(next),
         Spelt::Not(p) => Item::Wrong(p),
     }
@@ -148,7 +179,34 @@ pub(crate) fn item_at(text: &[u8], table: &[i64], at: usize) -> Item
     }
     match b {
         b'#' => setting_at(text, table, at + 1),
-        b'(' => comment_at(text, at + 1),
+        b'(' => comment_item(comment_end(text, at + 1)),
         _ => Item::Wrong(at),
+    }
+}
+
+// The place past a setting, after its `#`: its form alone.
+fn setting_end(text: &[u8], at: usize) -> Spelt
+    requires { ⌜ at ≤ length (now text) ⌝ }
+    ensures { λ r. ⌜ r ≡ speltTo (settingT (now (text .entry)) at) ⌝ }
+{
+    match pass_value(text, at) {
+        Spelt::To(p) => amount_end(text, p),
+        Spelt::Not(p) => Spelt::Not(p),
+    }
+}
+
+// The place past the item at a place: its form alone.
+pub(crate) fn item_end(text: &[u8], at: usize) -> Spelt
+    requires { ⌜ at < length (now text) ⌝ }
+    ensures { λ r. ⌜ r ≡ speltTo (itemT (now (text .entry)) at) ⌝ }
+{
+    let b = text[at];
+    if is_letter(b) {
+        return pass_value(text, at + 1);
+    }
+    match b {
+        b'#' => setting_end(text, at + 1),
+        b'(' => comment_end(text, at + 1),
+        _ => Spelt::Not(at),
     }
 }

@@ -1,17 +1,17 @@
 // The whole line: what is read is stored in lent spaces, in order.
 ghost use mathlib.Core.Path.{_≡_};
-ghost use mathlib.Core.List.{[]};
-ghost use Prim.Native.Nat.{_≤_, _<_};
+ghost use mathlib.Core.Bool.{cond};
+ghost use Prim.Native.Nat.{_+_, _≤_, _<_};
 ghost use lib.ListN.{length, set};
 ghost use Rattle.grammar.specs.Derivation.{ByForm};
-ghost use Rattle.grammar.proofs.Items.{itemsP, labelP, lineP};
+ghost use Rattle.grammar.proofs.Trees.{itemsT, labelT, lineT};
 ghost use Rattle.rules.specs.Promise.{panel};
-ghost use Rattle.reader.specs.Pass.{pass};
-ghost use Rattle.reader.specs.Places.{labelEnd, slashEnd};
-ghost use Rattle.reader.specs.Gather.{checked, ended, leftBy, tidied};
+ghost use Rattle.reader.specs.Places.{speltTo, slashEnd};
+ghost use Rattle.reader.specs.Gather.{checked, ended, leftByItems, leftByLine, tidied};
 ghost use Rattle.reader.specs.Reading.{spaces, zeros, Reads};
 use super::cursor::item_from;
 use super::items::Item;
+use super::items::item_end;
 use super::numbers::digits_from;
 use super::spelling::Spelt;
 use rules::Value;
@@ -20,10 +20,12 @@ use text::prepare;
 
 // What became of a line.
 pub enum Reading {
-    // It is read: so many words and so many settings are stored.
-    Read(usize, usize),
+    // It is read: so many words and so many settings are stored, and so much work it was.
+    Read(usize, usize, u64),
     // Its form is right, but it is refused with this number, 5 to 7: the first in working order.
     Stopped(u8),
+    // Its form is right, but some value of it nests deeper than 24; the lent spaces hold zeros.
+    Deep,
     // It has no derivation. The place, among the prepared bytes, of the first at which it cannot go on;
     // the lent spaces hold zeros.
     Wrong(usize),
@@ -50,7 +52,7 @@ fn slash_end(text: &[u8]) -> usize
 // The place past N and its one to five digits, where N stands here.
 fn label_end(text: &[u8], at: usize) -> Spelt
     requires { ⌜ at ≤ length (now text) ⌝ }
-    ensures { λ r. ⌜ r ≡ labelEnd (labelP (pass []) (now (text .entry)) at) ⌝ }
+    ensures { λ r. ⌜ r ≡ speltTo (labelT (now (text .entry)) at) ⌝ }
 {
     if text.len() <= at {
         return Spelt::To(at);
@@ -69,71 +71,80 @@ fn label_end(text: &[u8], at: usize) -> Spelt
 }
 
 // The form of the items from here on.
-fn check_from(text: &[u8], table: &[i64], at: usize) -> Checked
+fn check_from(text: &[u8], at: usize) -> Checked
     requires { ⌜ at ≤ length (now text) ⌝ }
-    ensures { λ r. ⌜ r ≡ checked (itemsP (pass (now (table .entry))) (now (text .entry)) at) ⌝ }
+    ensures { λ r. ⌜ r ≡ checked (itemsT (now (text .entry)) at) ⌝ }
 {
     let mut i = at;
-    loop {
-        match item_from(text, table, i) {
-            Item::Word(_, _, next) => {
-                i = next;
-            }
-            Item::Setting(_, _, next) => {
-                i = next;
-            }
-            Item::Comment(next) => {
-                i = next;
-            }
-            Item::Stop(_, next) => {
-                i = next;
-            }
-            Item::Wrong(p) => {
-                return Checked::Wrong(p);
-            }
-            Item::End => {
-                return Checked::Right;
-            }
+    while i < text.len() {
+        match item_end(text, i) {
+            Spelt::To(next) => i = next,
+            Spelt::Not(p) => return Checked::Wrong(p),
         }
     }
+    Checked::Right
 }
 
-fn store_word(letters: &mut [u8; 128], values: &mut [i64; 128], n: usize, letter: u8, value: Value)
+// Stores a word in place n, and answers how many there are then.
+fn store_word(
+    letters: &mut [u8; 128],
+    values: &mut [i64; 128],
+    n: usize,
+    letter: u8,
+    value: Value,
+) -> usize
     requires { ⌜ n < 128 ⌝ }
-    ensures { λ r. ⌜ (now (letters .exit) ≡ set (now (letters .entry)) n letter) × (now (values .exit) ≡ set (now (values .entry)) n (value .0)) ⌝ }
+    ensures { λ r. ⌜ (r ≡ n + 1) × (now (letters .exit) ≡ set (now (letters .entry)) n letter) × (now (values .exit) ≡ set (now (values .entry)) n (value .0)) ⌝ }
 {
     let amount = value.0;
     letters[n] = letter;
     values[n] = amount;
+    n + 1
 }
 
+// Stores a setting in place n, and answers how many there are then.
 fn store_setting(
     numbers: &mut [usize; 64],
     amounts: &mut [i64; 64],
     n: usize,
     number: usize,
     value: Value,
-)
+) -> usize
     requires { ⌜ n < 64 ⌝ }
-    ensures { λ r. ⌜ (now (numbers .exit) ≡ set (now (numbers .entry)) n number) × (now (amounts .exit) ≡ set (now (amounts .entry)) n (value .0)) ⌝ }
+    ensures { λ r. ⌜ (r ≡ n + 1) × (now (numbers .exit) ≡ set (now (numbers .entry)) n number) × (now (amounts .exit) ≡ set (now (amounts .entry)) n (value .0)) ⌝ }
 {
     let amount = value.0;
     numbers[n] = number;
     amounts[n] = amount;
+    n + 1
+}
+
+// Of two refusals the first in working order counts.
+fn first_refusal(stopped: bool, number: u8, next: u8) -> u8
+    ensures { λ r. ⌜ r ≡ cond stopped number next ⌝ }
+{
+    if stopped {
+        return number;
+    }
+    next
 }
 
 // The answer at the end of a line of right form.
-fn ended(stopped: bool, number: u8, words: usize, settings: usize) -> Reading
-    ensures { λ r. ⌜ r ≡ ended stopped number words settings ⌝ }
+fn ended(deep: bool, stopped: bool, number: u8, words: usize, settings: usize, work: u64) -> Reading
+    ensures { λ r. ⌜ r ≡ ended deep stopped number words settings work ⌝ }
 {
+    if deep {
+        return Reading::Deep;
+    }
     if stopped {
         return Reading::Stopped(number);
     }
-    Reading::Read(words, settings)
+    Reading::Read(words, settings, work)
 }
 
 // Reads the items from here on, and stores their words and settings up to the first that is refused.
-// The form of those after it is read in the same loop, so that the compiler puts the items' code into it.
+// The form of those after it, or after one that nests too deep, is read in the same loop, so that the
+// compiler puts the items' code into it.
 fn gather(
     text: &[u8],
     table: &[i64],
@@ -144,39 +155,43 @@ fn gather(
     amounts: &mut [i64; 64],
 ) -> Reading
     requires { ⌜ (at ≤ length (now text)) × (length (now text) ≤ 256) ⌝ }
-    ensures { λ r. ⌜ tidied r (spaces (now (letters .exit)) (now (values .exit)) (now (numbers .exit)) (now (amounts .exit))) ≡ leftBy (itemsP (pass (now (table .entry))) (now (text .entry)) at) (spaces (now (letters .entry)) (now (values .entry)) (now (numbers .entry)) (now (amounts .entry))) ⌝ }
+    ensures { λ r. ⌜ tidied r (spaces (now (letters .exit)) (now (values .exit)) (now (numbers .exit)) (now (amounts .exit))) ≡ leftByItems (now (table .entry)) (itemsT (now (text .entry)) at) (spaces (now (letters .entry)) (now (values .entry)) (now (numbers .entry)) (now (amounts .entry))) ⌝ }
 {
     let mut words: usize = 0;
     let mut settings: usize = 0;
+    let mut work: u64 = 0;
+    let mut deep = false;
     let mut stopped = false;
     let mut number: u8 = 0;
     let mut i = at;
     loop {
         match item_from(text, table, i) {
-            Item::Word(letter, value, next) => {
+            Item::Word(letter, value, more, next) => {
                 i = next;
                 if !stopped {
-                    store_word(letters, values, words, letter, value);
-                    words += 1;
+                    words = store_word(letters, values, words, letter, value);
+                    work += more;
                 }
             }
-            Item::Setting(parameter, value, next) => {
+            Item::Setting(parameter, value, more, next) => {
                 i = next;
                 if !stopped {
-                    store_setting(numbers, amounts, settings, parameter, value);
-                    settings += 1;
+                    settings = store_setting(numbers, amounts, settings, parameter, value);
+                    work += more;
                 }
             }
             Item::Comment(next) => i = next,
             Item::Stop(n, next) => {
                 i = next;
-                if !stopped {
-                    stopped = true;
-                    number = n;
-                }
+                number = first_refusal(stopped, number, n);
+                stopped = true;
+            }
+            Item::Deep(next) => {
+                i = next;
+                deep = true;
             }
             Item::Wrong(p) => return Reading::Wrong(p),
-            Item::End => return ended(stopped, number, words, settings),
+            Item::End => return ended(deep, stopped, number, words, settings, work),
         }
     }
 }
@@ -191,7 +206,7 @@ fn read_text(
     amounts: &mut [i64; 64],
 ) -> Reading
     requires { ⌜ length (now text) ≤ 256 ⌝ }
-    ensures { λ r. ⌜ tidied r (spaces (now (letters .exit)) (now (values .exit)) (now (numbers .exit)) (now (amounts .exit))) ≡ leftBy (lineP (pass (now (table .entry))) (now (text .entry))) (spaces (now (letters .entry)) (now (values .entry)) (now (numbers .entry)) (now (amounts .entry))) ⌝ }
+    ensures { λ r. ⌜ tidied r (spaces (now (letters .exit)) (now (values .exit)) (now (numbers .exit)) (now (amounts .exit))) ≡ leftByLine (now (table .entry)) (lineT (now (text .entry))) (spaces (now (letters .entry)) (now (values .entry)) (now (numbers .entry)) (now (amounts .entry))) ⌝ }
 {
     match label_end(text, slash_end(text)) {
         Spelt::To(p) => gather(text, table, p, letters, values, numbers, amounts),
@@ -199,7 +214,7 @@ fn read_text(
     }
 }
 
-// Nothing of a line of wrong form is left to be taken for a word or a setting.
+// Nothing of a line of wrong form, or of too deep a nesting, is left to be taken for a word or a setting.
 fn clear(
     letters: &mut [u8; 128],
     values: &mut [i64; 128],
@@ -231,19 +246,20 @@ pub fn read(
         return Reading::TooLong;
     };
     let reading = read_text(&text[..n], table, letters, values, numbers, amounts);
-    if let Reading::Wrong(_) = reading {
-        clear(letters, values, numbers, amounts);
+    match reading {
+        Reading::Wrong(_) => clear(letters, values, numbers, amounts),
+        Reading::Deep => clear(letters, values, numbers, amounts),
+        _ => {}
     }
     reading
 }
 
-// The form of a prepared line. Values are worked out on the way, so a table is lent; what is in it makes
-// no difference.
-fn check_text(text: &[u8], table: &[i64]) -> Checked
-    ensures { λ r. ⌜ r ≡ checked (lineP (pass (now (table .entry))) (now (text .entry))) ⌝ }
+// The form of a prepared line. Nothing is worked out, so no table is asked for.
+fn check_text(text: &[u8]) -> Checked
+    ensures { λ r. ⌜ r ≡ checked (lineT (now (text .entry))) ⌝ }
 {
     match label_end(text, slash_end(text)) {
-        Spelt::To(p) => check_from(text, table, p),
+        Spelt::To(p) => check_from(text, p),
         Spelt::Not(p) => Checked::Wrong(p),
     }
 }
@@ -253,9 +269,8 @@ pub fn form(line: &[u8]) -> u8
     ensures { λ r. ⌜ ByForm (now (line .entry)) (panel (now (line .entry))) r ⌝ }
 {
     let mut text = [0u8; 256];
-    let table = [0i64; 1];
     match prepare(line, &mut text) {
-        Prepared::Bytes(n) => match check_text(&text[..n], &table) {
+        Prepared::Bytes(n) => match check_text(&text[..n]) {
             Checked::Right => 0,
             Checked::Wrong(_) => 3,
         },

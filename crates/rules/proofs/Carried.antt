@@ -1,5 +1,5 @@
 -- The promise in document 01's own numbers. `carried`: the answer carries the first number of the ordered list, by `numberOf`, and the count of the commands where that is
--- 0, by `countOf`; and record, table and output are new where it is 0 and otherwise as they were. `uncarried`: those sentences say no less than the promise.
+-- 0, by `countOf`; record, table and output are new and the work is reported where it is 0, and otherwise they are as they were and the work is 0. `uncarried`: those sentences say no less than the promise.
 -- Assumes nothing.
 use mathlib.Core.Path.{_≡_, refl, ap, _∙_, sym, subst}
 use mathlib.Core.Bool.{Bool, true, false, cond}
@@ -11,13 +11,13 @@ use lib.ListN.{length}
 use lib.IntN.{ℤ}
 use Rattle.grammar.specs.Grammar.{Line}
 use Rattle.grammar.specs.Derivation.{Derives}
-use Rattle.grammar.specs.Working.{Took}
+use Rattle.grammar.specs.Working.{Contents}
 use Rattle.rules.specs.Meaning.{Entry, reading, words, settings}
 use Rattle.rules.specs.Block.{blockOf}
 use Rattle.rules.specs.Steps.{ready, left}
 use Rattle.rules.specs.Commands.{commands, written}
 use Rattle.rules.specs.Refusals.{first}
-use Rattle.rules.specs.Promise.{After, Right, answerTo, answerOf, leaving, byNumber, apply, over, taken, numberOf, countOf}
+use Rattle.rules.specs.Promise.{After, Right, answerTo, answerOf, leaving, worth, byNumber, apply, over, taken, numberOf, countOf}
 use Rattle.rules.specs.declared.Block.{Block}
 use Rattle.rules.specs.declared.Record.{Record}
 use Rattle.rules.specs.declared.Answer.{Answer}
@@ -26,19 +26,20 @@ use Rattle.rules.proofs.Answers.{plain, number-of, count-of, plain-of, 
 use Rattle.rules.proofs.Told.{cases}
 
 -- ---- what is left for a number
-alike : {a a′ : After} → a .outcome .answer ≡ a′ .outcome .answer → a .outcome .rec ≡ a′ .outcome .rec → a .table ≡ a′ .table → a .out ≡ a′ .out → a ≡ a′
-alike {a} {a′} p q s u = by p q s u
+alike : {a a′ : After} → a .outcome .answer ≡ a′ .outcome .answer → a .outcome .rec ≡ a′ .outcome .rec → a .work ≡ a′ .work → a .table ≡ a′ .table → a .out ≡ a′ .out → a ≡ a′
+alike {a} {a′} p q v s u = by p q v s u
   where
-    by : {x x′ : Answer} {y y′ : Record} {z z′ w w′ : List ℤ} → x ≡ x′ → y ≡ y′ → z ≡ z′ → w ≡ w′ → leaving x y z w ≡ leaving x′ y′ z′ w′
-    by p q s u = cc
+    by : {x x′ : Answer} {y y′ : Record} {m m′ : ℕ} {z z′ w w′ : List ℤ} → x ≡ x′ → y ≡ y′ → m ≡ m′ → z ≡ z′ → w ≡ w′ → worth m x y z w ≡ worth m′ x′ y′ z′ w′
+    by p q v s u = cc
 
-module _ (n : ℕ) (e : Took Entry) (b : Block) (r : Record) (table out : List ℤ) where
+module _ (n : ℕ) (e : Contents Entry) (b : Block) (r : Record) (table out : List ℤ) where
   pub record Carries (a : After) : Type 0 where
     pub number : numberOf (a .outcome .answer) ≡ n
     pub count : countOf (a .outcome .answer) ≡ cond (eqb n 0) (length (commands b (ready b r))) 0
     pub plainly : T (plain (a .outcome .answer))
     pub newRecord : a .outcome .rec ≡ cond (eqb n 0) (left b r) r
-    pub newTable : a .table ≡ cond (eqb n 0) (apply (settings e) table) table
+    pub workDone : a .work ≡ cond (eqb n 0) (e .work) 0
+    pub newTable : a .table ≡ cond (eqb n 0) (apply (settings (e .entries)) table) table
     pub newOut : a .out ≡ cond (eqb n 0) (over (written (commands b (ready b r))) out) out
 
   abbrev k : ℕ
@@ -49,7 +50,7 @@ module _ (n : ℕ) (e : Took Entry) (b : Block) (r : Record) (table out : List �
 
   -- by its parts, where zero? is whether the number is 0
   abbrev parts : Bool → After
-  parts zero? = leaving (cond zero? (Accepted k) other) (cond zero? (left b r) r) (cond zero? (apply (settings e) table) table) (cond zero? (over (written (commands b (ready b r))) out) out)
+  parts zero? = worth (cond zero? (e .work) 0) (cond zero? (Accepted k) other) (cond zero? (left b r) r) (cond zero? (apply (settings (e .entries)) table) table) (cond zero? (over (written (commands b (ready b r))) out) out)
 
   by-parts : byNumber n e b r table out ≡ parts (eqb n 0)
   by-parts = go (eqb n 0)
@@ -59,7 +60,7 @@ module _ (n : ℕ) (e : Took Entry) (b : Block) (r : Record) (table out : List �
       go false = refl
 
   carries : {a : After} → a ≡ byNumber n e b r table out → Carries a
-  carries h = subst Carries (sym (h ∙ by-parts)) (record { number = number-of n k; count = count-of n k; plainly = plain-of n k; newRecord = refl; newTable = refl; newOut = refl })
+  carries h = subst Carries (sym (h ∙ by-parts)) (record { number = number-of n k; count = count-of n k; plainly = plain-of n k; newRecord = refl; workDone = refl; newTable = refl; newOut = refl })
 
   carried-answer : {a : After} → Carries a → a .outcome .answer ≡ answerOf n k
   carried-answer {a} c = answer-of (a .outcome .answer) (c .plainly) ∙ rw (c .number, c .count) (go (eqb n 0))
@@ -69,14 +70,14 @@ module _ (n : ℕ) (e : Took Entry) (b : Block) (r : Record) (table out : List �
       go false = refl
 
   same : {a : After} → Carries a → a ≡ byNumber n e b r table out
-  same {a} c = alike {a′ = parts (eqb n 0)} (carried-answer c) (c .newRecord) (c .newTable) (c .newOut) ∙ sym by-parts
+  same {a} c = alike {a′ = parts (eqb n 0)} (carried-answer c) (c .newRecord) (c .workDone) (c .newTable) (c .newOut) ∙ sym by-parts
 
 module _ (line : List ℕ) (switch : Bool) (r : Record) (table out : List ℤ) where
   -- for a derivation, or for none
   abbrev pub CarriesFor : Option Line → After → Type 0
   CarriesFor f a =
       let e = taken (reading table f) in
-      Carries (first (cases line switch r table out f)) e (blockOf (words e)) r table out a
+      Carries (first (cases line switch r table out f)) e (blockOf (words (e .entries))) r table out a
 
   pub carried : {a : After} → Right line switch r table out a → ((t : Line) → Derives t line → CarriesFor (some t) a) × (((t : Line) → ¬ Derives t line) → CarriesFor none a)
   unfolding answerTo

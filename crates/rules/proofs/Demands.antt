@@ -15,11 +15,14 @@ use borrow.Author.Tests.{le-ltb}
 use Rattle.laws.proofs.Bools.{and-left, and-right}
 use Rattle.grammar.specs.Grammar.{Line}
 use Rattle.grammar.specs.Derivation.{strip, Derives}
-use Rattle.grammar.specs.Working.{Took, lineEntries}
+use Rattle.grammar.specs.Work.{bareBytes}
+use Rattle.grammar.specs.Working.{Took, Step, Contents, contents}
 use Rattle.grammar.proofs.Read.{parse}
 use Rattle.grammar.proofs.Terms.{Pass}
 use Rattle.grammar.proofs.Place.{Placed, wrong, found}
 use Rattle.grammar.proofs.Items.{lineP}
+use Rattle.grammar.proofs.Bare.{work-bytes}
+use Rattle.grammar.proofs.Tally.{Tallied, tallied, gather, line-gathered}
 use Rattle.grammar.proofs.Derivations.{found as finds, missed, decided}
 use Rattle.grammar.proofs.ByForm.{by-form-sole, by-pass}
 use Rattle.rules.specs.Meaning.{Entry, arithmetic, reading, words, meets}
@@ -27,7 +30,7 @@ use Rattle.rules.specs.Block.{blockOf}
 use Rattle.rules.specs.Steps.{ready}
 use Rattle.rules.specs.Commands.{commands}
 use Rattle.rules.specs.Refusals.{Case, _when_, first, refusals}
-use Rattle.rules.specs.Promise.{After, Right, answer, answerTo, leaving, accepted, byNumber, numbers, underived, taken, answerOf, numberOf, countOf, disorder, slashed}
+use Rattle.rules.specs.Promise.{After, Right, answer, answerTo, leaving, accepted, byNumber, numbers, underived, taken, answerOf, numberOf, countOf, disorder, slashed, tooDeep}
 use Rattle.rules.specs.declared.Worked.{Worked}
 use Rattle.rules.specs.declared.Block.{Block}
 use Rattle.rules.specs.declared.Record.{Record}
@@ -35,15 +38,16 @@ use Rattle.rules.specs.declared.Answer.{Answer}
 use Rattle.rules.specs.declared.Answer.the-variants.{Accepted, Refused, Skipped}
 use Rattle.rules.proofs.Answers.{number-of, count-of}
 
--- nothing is changed: "returns count 0 and leaves record, table and output unchanged"
+-- nothing is changed: "returns count 0 and leaves record, table and output unchanged"; "others report 0"
 pub record Unchanged (r : Record) (table out : List ℤ) (a : After) : Type 0 where
   pub noCommand : countOf (a .outcome .answer) ≡ 0
+  pub noWork : a .work ≡ 0
   pub sameRecord : a .outcome .rec ≡ r
   pub sameTable : a .table ≡ table
   pub sameOut : a .out ≡ out
 
 -- ---- what is left for a number
-module _ (n : ℕ) (e : Took Entry) (b : Block) (r : Record) (table out : List ℤ) where
+module _ (n : ℕ) (e : Contents Entry) (b : Block) (r : Record) (table out : List ℤ) where
   -- is answered as that number is, with the count of the commands
   pub answer-by : byNumber n e b r table out .outcome .answer ≡ answerOf n (length (commands b (ready b r)))
   answer-by = of (eqb n 0) (accepted e b r table out) _ ∙ once (eqb n 0)
@@ -69,7 +73,15 @@ module _ (n : ℕ) (e : Took Entry) (b : Block) (r : Record) (table out : List �
     where
       go : (x : Bool) → eqb n 0 ≡ x → Unchanged r table out (cond x (byNumber 0 e b r table out) (leaving (answerOf n 0) r table out))
       go true p = absurd (h (number-is ∙ eqb→eq n 0 (subst T (sym p) tt)))
-      go false p = record { noCommand = count-of n 0 ∙ rw p; sameRecord = refl; sameTable = refl; sameOut = refl }
+      go false p = record { noCommand = count-of n 0 ∙ rw p; noWork = refl; sameRecord = refl; sameTable = refl; sameOut = refl }
+
+  -- reports no more work than there is
+  slight : byNumber n e b r table out .work ≤ e .work
+  slight = go (eqb n 0)
+    where
+      go : (x : Bool) → cond x (accepted e b r table out) (leaving (answerOf n 0) r table out) .work ≤ e .work
+      go true = omega arith
+      go false = omega arith
 
 -- ---- a number that no case of a list carries is not its first
 abbrev pub lacks : ℕ → List Case → Bool
@@ -82,15 +94,16 @@ lacking k ((n when true) ∷ cs) t h = T-not (eqb n k) (and-left (not (eqb n k))
 lacking k ((n when false) ∷ cs) t h = lacking k cs (and-right (not (eqb n k)) (lacks k cs) t) h
 
 -- the numbers after 3
-abbrev later : Took Entry → Block → Record → ℕ → List Case
-later e b m room = (4 when meets e 4) ∷ (5 when meets e 5) ∷ (6 when meets e 6) ∷ (7 when meets e 7) ∷ refusals (words e) b m room
+abbrev later : Contents Entry → Block → Record → ℕ → List Case
+later c b m room =
+    (16 when tooDeep c) ∷ (4 when meets (c .entries) 4) ∷ (5 when meets (c .entries) 5) ∷ (6 when meets (c .entries) 6) ∷ (7 when meets (c .entries) 7) ∷ refusals (words (c .entries)) b m room
 
 -- ---- the model reader and the one pass
 
 -- what one pass has read, where it came to the line's end
-abbrev pub finished : Placed (Took Entry) → Option (Took Entry)
-finished (wrong place) = none
-finished (found e place) = some e
+abbrev pub finished : {E : Type 0} → (Took (Tallied (Step E)) → Contents E) → Placed (Took (Tallied (Step E))) → Option (Contents E)
+finished g (wrong place) = none
+finished g (found e place) = some (g e)
 
 module _ (line : List ℕ) (switch : Bool) (r : Record) (table out : List ℤ) where
   -- what the promise allows is the answer for what that reader finds, so that it can be computed
@@ -100,10 +113,10 @@ module _ (line : List ℕ) (switch : Bool) (r : Record) (table out : List ℤ) w
       (λ h. p .byNone h ∙ ap (λ (f : Option Line). answer f line switch r table out) (sym (missed h)))
       (decided line)
 
-  kept-to : (e : Option (Took Entry)) → (numberOf (answerTo e line switch r table out .outcome .answer) ≡ 0 → ⊥) → Unchanged r table out (answerTo e line switch r table out)
+  kept-to : (e : Option (Contents Entry)) → (numberOf (answerTo e line switch r table out .outcome .answer) ≡ 0 → ⊥) → Unchanged r table out (answerTo e line switch r table out)
   unfolding answerTo
   kept-to e h =
-      let b = blockOf (words (taken e)) in
+      let b = blockOf (words (taken e .entries)) in
       kept (first (numbers (underived e) (taken e) b line switch r table (length out))) (taken e) b r table out h
 
   -- a refused or skipped line changes nothing
@@ -112,16 +125,31 @@ module _ (line : List ℕ) (switch : Bool) (r : Record) (table out : List ℤ) w
       let e = by-model p in
       subst (Unchanged r table out) (sym e) (kept-to (reading table (parse (strip line))) (λ q. h (ap (λ (x : After). numberOf (x .outcome .answer)) e ∙ q)))
 
+  slight-to : (c : Option (Contents Entry)) → answerTo c line switch r table out .work ≤ taken c .work
+  unfolding answerTo
+  slight-to c =
+      let b = blockOf (words (taken c .entries)) in
+      slight (first (numbers (underived c) (taken c) b line switch r table (length out))) (taken c) b r table out
+
+  -- "That number never exceeds the line's bytes that are neither blank nor in a comment"
+  pub work-bound : {a : After} → Right line switch r table out a → a .work ≤ bareBytes line
+  work-bound {a} p = ⊎-elim
+      (λ w. let h = slight-to (reading table (some (w .0))) in omega (arith, h, work-bytes (w .1), ap (λ (x : After). x .work) (p .byTree (w .0) (w .1))))
+      (λ h. let k = slight-to none in omega (arith, k, ap (λ (x : After). x .work) (p .byNone h)))
+      (decided line)
+
   -- two results that the promise allows are equal
   pub only : {a b : After} → Right line switch r table out a → Right line switch r table out b → a ≡ b
   only p q = by-form-sole p q
 
-  -- whoever's result is the answer for what one pass over the prepared line reads, however the pass keeps its state, keeps the promise
-  pub by-one-pass : {S : Type 0} (P : Pass (arithmetic table) S) {a : After} → a ≡ answerTo (finished (lineP P (strip line))) line switch r table out → Right line switch r table out a
+  -- whoever's result is the answer for what one pass over the prepared line reads and counts, however the pass keeps its state, keeps the promise
+  pub by-one-pass : {S : Type 0} (P : Pass (tallied (arithmetic table)) S) {a : After} →
+      a ≡ answerTo (finished (gather (arithmetic table)) (lineP P (strip line))) line switch r table out → Right line switch r table out a
   by-one-pass P e =
-      let to : Option (Took Entry) → After = λ o. answerTo o line switch r table out in
-      let p = by-pass P (λ q. to (finished q)) (to none) (λ t. to (some t)) (λ t q. refl) (λ q. refl) {s = line} e in
-      record { byTree = p .byTree; byNone = p .byNone }
+      let to : Option (Contents Entry) → After = λ o. answerTo o line switch r table out in
+      let g = gather (arithmetic table) in
+      let p = by-pass P (λ q. to (finished g q)) (to none) (λ t. to (some (g t))) (λ t q. refl) (λ q. refl) {s = line} e in
+      record { byTree = λ t d. p .byTree t d ∙ ap (λ (c : Contents Entry). to (some c)) (line-gathered (arithmetic table) t); byNone = p .byNone }
 
   -- where 1, 2 and the skip do not apply
   module _ (ordered : disorder r table ≡ false) (short : length line ≤ 256) (read : (switch && slashed line) ≡ false) where
@@ -133,10 +161,10 @@ module _ (line : List ℕ) (switch : Bool) (r : Record) (table out : List ℤ) w
     pub refused-3 : ((t : Line) → ¬ Derives t line) → {a : After} → Right line switch r table out a → a ≡ leaving (Refused 3) r table out
     refused-3 h p = p .byNone h ∙ answer-3
 
-    answer-not-3 : (e : Took Entry) → numberOf (answerTo (some e) line switch r table out .outcome .answer) ≡ 3 → ⊥
+    answer-not-3 : (e : Contents Entry) → numberOf (answerTo (some e) line switch r table out .outcome .answer) ≡ 3 → ⊥
     unfolding answerTo
     answer-not-3 e h =
-        let b = blockOf (words e) in
+        let b = blockOf (words (e .entries)) in
         let cs = numbers false e b line switch r table (length out) in
         let n : first cs ≡ 3 = sym (number-is (first cs) e b r table out) ∙ h in
         let k : first (later e b (ready b r) (length out)) ≡ 3 = rw (ordered, le-ltb 256 (length line) short, read) at n in
@@ -144,4 +172,4 @@ module _ (line : List ℕ) (switch : Bool) (r : Record) (table out : List ℤ) w
 
     -- and a line with one is not
     pub not-3 : (t : Line) → Derives t line → {a : After} → Right line switch r table out a → numberOf (a .outcome .answer) ≡ 3 → ⊥
-    not-3 t d p h = answer-not-3 (lineEntries (arithmetic table) t) (ap (λ (x : After). numberOf (x .outcome .answer)) (sym (p .byTree t d)) ∙ h)
+    not-3 t d p h = answer-not-3 (contents (arithmetic table) t) (ap (λ (x : After). numberOf (x .outcome .answer)) (sym (p .byTree t d)) ∙ h)

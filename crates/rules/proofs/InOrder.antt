@@ -16,7 +16,7 @@ use Rattle.laws.proofs.Bools.{and-left, and-right, neither-left, neither-right,
 use Rattle.grammar.specs.Bytes.{byte, among}
 use Rattle.grammar.specs.Grammar.{Line}
 use Rattle.grammar.specs.Derivation.{strip}
-use Rattle.grammar.specs.Working.{Took}
+use Rattle.grammar.specs.Working.{Contents}
 use Rattle.grammar.proofs.Read.{parse}
 use Rattle.rules.specs.Numbers.{within, inRange, whole, between, counted}
 use Rattle.rules.specs.Meaning.{Entry, reading, Said, Setting, words, settings}
@@ -349,19 +349,19 @@ ordered-before r table e = go (eqb (length table) 5000) (inOrder r) refl e
     go false y p e = absurd (subst T e tt)
 
 module _ (line : List ℕ) (switch : Bool) (r : Record) (table out : List ℤ) (before : disorder r table ≡ false) where
-  accepted-in-order : (e : Option (Took Entry)) → AllInRange (words (taken e)) → numberOf (answerTo e line switch r table out .outcome .answer) ≡ 0 →
+  accepted-in-order : (e : Option (Contents Entry)) → AllInRange (words (taken e .entries)) → numberOf (answerTo e line switch r table out .outcome .answer) ≡ 0 →
       disorder (answerTo e line switch r table out .outcome .rec) (answerTo e line switch r table out .table) ≡ false
   unfolding answerTo
   accepted-in-order e fine h =
-      let b = blockOf (words (taken e)) in
+      let b = blockOf (words (taken e .entries)) in
       let cs = numbers (underived e) (taken e) b line switch r table (length out) in
       let zero-is : first cs ≡ 0 = sym (number-is (first cs) (taken e) b r table out) ∙ h in
       let was = ordered-before r table before in
-      let now = left-ordered b r (summary (words (taken e)) fine) (ordered r (was .0)) (words-right b (none-holds 11 cs tt tt zero-is)) (in-reach b (ready b r) (none-holds 13 cs tt tt zero-is)) in
+      let now = left-ordered b r (summary (words (taken e .entries)) fine) (ordered r (was .0)) (words-right b (none-holds 11 cs tt tt zero-is)) (in-reach b (ready b r) (none-holds 13 cs tt tt zero-is)) in
       subst (λ (n : ℕ). disorder (byNumber n (taken e) b r table out .outcome .rec) (byNumber n (taken e) b r table out .table) ≡ false) (sym zero-is)
-      (in-order-table (left b r) (apply (settings (taken e)) table) (in-order (left b r) now) (apply-length (settings (taken e)) table ∙ was .1))
+      (in-order-table (left b r) (apply (settings (taken e .entries)) table) (in-order (left b r) now) (apply-length (settings (taken e .entries)) table ∙ was .1))
 
-  reading-in-range : (f : Option Line) → AllInRange (words (taken (reading table f)))
+  reading-in-range : (f : Option Line) → AllInRange (words (taken (reading table f) .entries))
   reading-in-range none = tt
   reading-in-range (some t) = words-in-range table t
 

@@ -18,3 +18,4 @@ pub mod Fractions
 pub mod Nearest
 pub mod Residue
 pub mod Signs
+pub mod WorkCases

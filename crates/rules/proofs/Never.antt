@@ -27,7 +27,7 @@ unmet (stopped n) s t = let e = eqb→eq n 4 t in omega (arith, s .0)
 unmet (took (wordIs b v) e) s t = unmet e (s .1) t
 unmet (took (settingIs n v) e) s t = unmet e s t
 
-not-read : (table : List ℤ) (f : Option Line) → T (meets (taken (reading table f)) 4) → ⊥
+not-read : (table : List ℤ) (f : Option Line) → T (meets (taken (reading table f) .entries) 4) → ⊥
 not-read table none t = t
 not-read table (some (tree s n is)) t = unmet (entries (arithmetic table) is) (entries-sound table is) t
 
@@ -38,5 +38,5 @@ never-4 line switch r table out p h =
     let f = parse (strip line) in
     let e = taken (reading table f) in
     let cs = cases line switch r table out f in
-    let n : first cs ≡ 4 = sym (number-is (first cs) e (blockOf (words e)) r table out) ∙ (sym (ap (λ (x : After). numberOf (x .outcome .answer)) (by-model line switch r table out p)) ∙ h) in
+    let n : first cs ≡ 4 = sym (number-is (first cs) e (blockOf (words (e .entries))) r table out) ∙ (sym (ap (λ (x : After). numberOf (x .outcome .answer)) (by-model line switch r table out p)) ∙ h) in
     not-read table f (given-only 4 cs tt n .1)

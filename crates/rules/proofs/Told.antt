@@ -13,15 +13,15 @@ use lib.IntN.{ℤ}
 use Rattle.laws.proofs.Bools.{and-left, and-right, T-eq}
 use Rattle.grammar.specs.Grammar.{Line}
 use Rattle.grammar.specs.Derivation.{strip, Derives}
-use Rattle.grammar.specs.Working.{Took, end, lineEntries}
+use Rattle.grammar.specs.Working.{Contents, contents}
 use Rattle.grammar.proofs.Read.{parse}
-use Rattle.rules.specs.Meaning.{Entry, arithmetic, reading, words, meets}
+use Rattle.rules.specs.Meaning.{Entry, arithmetic, reading, Said, words, meets}
 use Rattle.rules.specs.Block.{blockOf}
 use Rattle.rules.specs.Steps.{ready}
 use Rattle.rules.specs.Arcs.{arcMove, badArc}
 use Rattle.rules.specs.Commands.{commands}
 use Rattle.rules.specs.Refusals.{Case, _when_, first, unserved, doubled, missing, idle, wrongWord, wrongMode, tooFar}
-use Rattle.rules.specs.Promise.{After, Right, answer, answerTo, leaving, accepted, byNumber, numbers, underived, taken, numberOf, disorder, slashed}
+use Rattle.rules.specs.Promise.{After, Right, answer, answerTo, leaving, accepted, byNumber, numbers, underived, taken, numberOf, disorder, slashed, tooDeep}
 use Rattle.rules.specs.declared.Block.{Block}
 use Rattle.rules.specs.declared.Record.{Record}
 use Rattle.rules.specs.declared.Answer.the-variants.{Refused, Skipped}
@@ -66,12 +66,15 @@ given-only n ((k when false) ∷ cs) d e = go (eqb k n) refl (given-only n cs (a
     go false p f = f
 
 module _ (line : List ℕ) (switch : Bool) (r : Record) (table out : List ℤ) where
-  -- what a derivation gives: its words and settings, its summary, and the record as the motion step finds it
-  abbrev read : Line → Took Entry
-  read t = lineEntries (arithmetic table) t
+  -- what a derivation gives: all that is read, its words, its summary, and the record as the motion step finds it
+  abbrev read : Line → Contents Entry
+  read t = contents (arithmetic table) t
+
+  abbrev wordsOf : Line → List Said
+  wordsOf t = words (read t .entries)
 
   abbrev block : Line → Block
-  block t = blockOf (words (read t))
+  block t = blockOf (wordsOf t)
 
   abbrev then : Line → Record
   then t = ready (block t) r
@@ -83,7 +86,7 @@ module _ (line : List ℕ) (switch : Bool) (r : Record) (table out : List ℤ) w
   abbrev pub cases : Option Line → List Case
   cases f =
       let e = reading table f in
-      numbers (underived e) (taken e) (blockOf (words (taken e))) line switch r table (length out)
+      numbers (underived e) (taken e) (blockOf (words (taken e .entries))) line switch r table (length out)
 
   abbrev pub refused : ℕ → After
   refused n = leaving (Refused n) r table out
@@ -93,12 +96,13 @@ module _ (line : List ℕ) (switch : Bool) (r : Record) (table out : List ℤ) w
     pub tooLong : T (noneBefore 2 early) → ltb 256 (length line) ≡ true → a ≡ refused 2
     pub skipped : T (noneBefore 100 early) → (switch && slashed line) ≡ true → a ≡ leaving Skipped r table out
     pub underivable : T (noneBefore 3 early) → ((t : Line) → ¬ Derives t line) → a ≡ refused 3
-    pub tooFine : (t : Line) → Derives t line → T (noneBefore 4 (cases (some t))) → meets (read t) 4 ≡ true → a ≡ refused 4
-    pub outOfRange : (t : Line) → Derives t line → T (noneBefore 5 (cases (some t))) → meets (read t) 5 ≡ true → a ≡ refused 5
-    pub byZero : (t : Line) → Derives t line → T (noneBefore 6 (cases (some t))) → meets (read t) 6 ≡ true → a ≡ refused 6
-    pub noParameter : (t : Line) → Derives t line → T (noneBefore 7 (cases (some t))) → meets (read t) 7 ≡ true → a ≡ refused 7
-    pub notServed : (t : Line) → Derives t line → T (noneBefore 8 (cases (some t))) → unserved (words (read t)) ≡ true → a ≡ refused 8
-    pub givenTwice : (t : Line) → Derives t line → T (noneBefore 9 (cases (some t))) → doubled (words (read t)) (block t) ≡ true → a ≡ refused 9
+    pub nestsDeep : (t : Line) → Derives t line → T (noneBefore 16 (cases (some t))) → tooDeep (read t) ≡ true → a ≡ refused 16
+    pub tooFine : (t : Line) → Derives t line → T (noneBefore 4 (cases (some t))) → meets (read t .entries) 4 ≡ true → a ≡ refused 4
+    pub outOfRange : (t : Line) → Derives t line → T (noneBefore 5 (cases (some t))) → meets (read t .entries) 5 ≡ true → a ≡ refused 5
+    pub byZero : (t : Line) → Derives t line → T (noneBefore 6 (cases (some t))) → meets (read t .entries) 6 ≡ true → a ≡ refused 6
+    pub noParameter : (t : Line) → Derives t line → T (noneBefore 7 (cases (some t))) → meets (read t .entries) 7 ≡ true → a ≡ refused 7
+    pub notServed : (t : Line) → Derives t line → T (noneBefore 8 (cases (some t))) → unserved (wordsOf t) ≡ true → a ≡ refused 8
+    pub givenTwice : (t : Line) → Derives t line → T (noneBefore 9 (cases (some t))) → doubled (wordsOf t) (block t) ≡ true → a ≡ refused 9
     pub missingOrIdle : (t : Line) → Derives t line → T (noneBefore 10 (cases (some t))) → (missing (block t) (then t) || idle (block t) (then t)) ≡ true → a ≡ refused 10
     pub badWord : (t : Line) → Derives t line → T (noneBefore 11 (cases (some t))) → wrongWord (block t) ≡ true → a ≡ refused 11
     pub badMode : (t : Line) → Derives t line → T (noneBefore 12 (cases (some t))) → wrongMode (block t) (then t) ≡ true → a ≡ refused 12
@@ -109,9 +113,9 @@ module _ (line : List ℕ) (switch : Bool) (r : Record) (table out : List ℤ) w
 
   -- ---- told
   by-given : (f : Option Line) (n : ℕ) → T (noneBefore n (cases f)) → T (condition n (cases f)) →
-      answer f line switch r table out ≡ byNumber n (taken (reading table f)) (blockOf (words (taken (reading table f)))) r table out
+      answer f line switch r table out ≡ byNumber n (taken (reading table f)) (blockOf (words (taken (reading table f) .entries))) r table out
   unfolding answerTo
-  by-given f n t u = ap (λ (k : ℕ). byNumber k (taken (reading table f)) (blockOf (words (taken (reading table f)))) r table out) (given n (cases f) t u)
+  by-given f n t u = ap (λ (k : ℕ). byNumber k (taken (reading table f)) (blockOf (words (taken (reading table f) .entries))) r table out) (given n (cases f) t u)
 
   pub told : {a : After} → Right line switch r table out a → Told a
   told {a} p = record {
@@ -119,6 +123,7 @@ module _ (line : List ℕ) (switch : Bool) (r : Record) (table out : List ℤ) w
     tooLong = λ h c. early-number 2 h (holds c);
     skipped = λ h c. early-number 100 h (holds c);
     underivable = λ h d. p .byNone d ∙ by-given none 3 h tt;
+    nestsDeep = λ t d h c. later-number t d 16 h (holds c);
     tooFine = λ t d h c. later-number t d 4 h (holds c);
     outOfRange = λ t d h c. later-number t d 5 h (holds c);
     byZero = λ t d h c. later-number t d 6 h (holds c);
@@ -140,7 +145,7 @@ module _ (line : List ℕ) (switch : Bool) (r : Record) (table out : List ℤ) w
       f : Option Line
       f = parse (strip line)
 
-      early-number : (n : ℕ) → T (noneBefore n (cases f)) → T (condition n (cases f)) → a ≡ byNumber n (taken (reading table f)) (blockOf (words (taken (reading table f)))) r table out
+      early-number : (n : ℕ) → T (noneBefore n (cases f)) → T (condition n (cases f)) → a ≡ byNumber n (taken (reading table f)) (blockOf (words (taken (reading table f) .entries))) r table out
       early-number n t u = by-model line switch r table out p ∙ by-given f n t u
 
       later-number : (t : Line) → Derives t line → (n : ℕ) → T (noneBefore n (cases (some t))) → T (condition n (cases (some t))) → a ≡ byNumber n (read t) (block t) r table out
@@ -175,22 +180,25 @@ module _ (line : List ℕ) (switch : Bool) (r : Record) (table out : List ℤ) w
           (
             λ _ c. absurd (subst T (sym c) tt),
             (
-              s .tooFine t d,
+              s .nestsDeep t d,
               (
-                s .outOfRange t d,
+                s .tooFine t d,
                 (
-                  s .byZero t d,
+                  s .outOfRange t d,
                   (
-                    s .noParameter t d,
+                    s .byZero t d,
                     (
-                      s .notServed t d,
+                      s .noParameter t d,
                       (
-                        s .givenTwice t d,
+                        s .notServed t d,
                         (
-                          s .missingOrIdle t d,
+                          s .givenTwice t d,
                           (
-                            s .badWord t d,
-                            (s .badMode t d, (s .outOfReach t d, (s .unequalRadii t d, (s .noRoom t d, s .works t d)))),
+                            s .missingOrIdle t d,
+                            (
+                              s .badWord t d,
+                              (s .badMode t d, (s .outOfReach t d, (s .unequalRadii t d, (s .noRoom t d, s .works t d)))),
+                            ),
                           ),
                         ),
                       ),
@@ -203,7 +211,7 @@ module _ (line : List ℕ) (switch : Bool) (r : Record) (table out : List ℤ) w
         ),
       ),
     );
-    byNone = λ h. by-sentences (λ x. x) (early ++ (3 when true) ∷ []) (λ n. a ≡ byNumber n end (blockOf []) r table out) tt
+    byNone = λ h. by-sentences (λ x. x) (early ++ (3 when true) ∷ []) (λ n. a ≡ byNumber n (taken none) (blockOf []) r table out) tt
         (λ _ c. s .disordered c, (s .tooLong, (s .skipped, (λ k _. s .underivable k h, λ k. absurd (never (disorder r table) (ltb 256 (length line)) (switch && slashed line) k)))));
   }
 

@@ -9,7 +9,7 @@ use lib.ListN.{length, getD}
 use lib.IntN.{ℤ, pos, natAbs, _+ℤ_, _-ℤ_, _*ℤ_}
 use Rattle.grammar.specs.Bytes.{byte}
 use Rattle.grammar.specs.Grammar.{Sign, unsigned, plus, minus, Fraction, Number, num, fractionDigits, Line}
-use Rattle.grammar.specs.Working.{Arithmetic, Step, give, stop, Took, end, stopped, took, entriesOf}
+use Rattle.grammar.specs.Working.{Arithmetic, Step, give, stop, Took, end, stopped, took, Contents, contentsOf}
 use Rattle.grammar.specs.declared.Op.{Op}
 use Rattle.grammar.specs.declared.Op.the-variants.{Add, Sub, Mul, Div, Mod, And, Or, Xor}
 use Rattle.grammar.specs.declared.Func.{Func}
@@ -109,14 +109,15 @@ arithmetic table = record {
   numberOf = numberOf;
   lookup = λ w. then w (λ v. entry table (parameterOf v));
   apply = λ f w. then w (function f);
+  enclose = λ w. w;
   work = λ o a b. then a (λ x. then b (λ y. operation o x y));
   wordOf = wordOf;
   settingOf = settingOf;
 }
 
--- "the tree's words and settings in order, with their values, up to the first of numbers 4 to 7"
-abbrev pub reading : List ℤ → Option Line → Option (Took Entry)
-reading table f = entriesOf (arithmetic table) f
+-- "the tree's words and settings in order, with their values, up to the first of numbers 4 to 7"; its work, and how deep it nests
+abbrev pub reading : List ℤ → Option Line → Option (Contents Entry)
+reading table f = contentsOf (arithmetic table) f
 
 -- the number that stopped the reading, 0 where none did
 abbrev pub stoppedBy : Took Entry → ℕ

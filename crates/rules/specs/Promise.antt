@@ -11,7 +11,7 @@ use lib.IntN.{ℤ, pos}
 use Rattle.grammar.specs.Bytes.{byte}
 use Rattle.grammar.specs.Grammar.{Line}
 use Rattle.grammar.specs.Derivation.{blank, ByForm}
-use Rattle.grammar.specs.Working.{Took, end}
+use Rattle.grammar.specs.Working.{end, Contents}
 use Rattle.rules.specs.Meaning.{Entry, reading, meets, words, settings, Setting}
 use Rattle.rules.specs.Block.{blockOf}
 use Rattle.rules.specs.Reach.{inOrder}
@@ -21,6 +21,7 @@ use Rattle.rules.specs.Refusals.{Case, _when_, first, refusals}
 use Rattle.rules.specs.declared.Record.{Record}
 use Rattle.rules.specs.declared.Block.{Block}
 use Rattle.rules.specs.declared.Outcome.{Outcome}
+use Rattle.rules.specs.declared.Report.{Report}
 use Rattle.rules.specs.declared.Answer.{Answer}
 use Rattle.rules.specs.declared.Answer.the-variants.{Accepted, Refused, Skipped}
 
@@ -39,19 +40,24 @@ countOf Skipped = 0
 abbrev pub answerOf : ℕ → ℕ → Answer
 answerOf n k = cond (eqb n (numberOf (Accepted k))) (Accepted k) (cond (eqb n (numberOf Skipped)) Skipped (Refused n))
 
--- all that a call leaves: its result with the record, and what each lent space holds
+-- all that a call leaves: its result with the record, the work it reports, and what each lent space holds
 pub record After : Type 0 where
   pub outcome : Outcome
+  pub work : ℕ
   pub table : List ℤ
   pub out : List ℤ
 
--- a result that has the record in it, with what table and output hold afterwards
-abbrev pub after : Outcome → List ℤ → List ℤ → After
-after o table out = record { outcome = o; table = table; out = out }
+-- a report, with what table and output hold afterwards
+abbrev pub after : Report → List ℤ → List ℤ → After
+after o table out = record { outcome = o .outcome; work = o .work; table = table; out = out }
 
--- an answer, with the record, the table and the output as it leaves them
+-- an answer with its work, and with the record, the table and the output as it leaves them
+abbrev pub worth : ℕ → Answer → Record → List ℤ → List ℤ → After
+worth work a r table out = record { outcome = record { answer = a; rec = r }; work = work; table = table; out = out }
+
+-- an answer with no work: "others report 0"
 abbrev pub leaving : Answer → Record → List ℤ → List ℤ → After
-leaving a r table out = after (record { answer = a; rec = r }) table out
+leaving a r table out = worth 0 a r table out
 
 -- number 1: "table length is not 5,000, or a record field is outside its range"
 unfoldable pub disorder : Record → List ℤ → Bool
@@ -67,48 +73,53 @@ abbrev pub underived : {A : Type 0} → Option A → Bool
 underived none = true
 underived (some t) = false
 
+-- number 16: "Nesting .. is limited to 24"
+abbrev pub tooDeep : Contents Entry → Bool
+tooDeep c = ltb 24 (c .depth)
+
 -- what was read, where there is a derivation
-abbrev pub taken : Option (Took Entry) → Took Entry
-taken none = end
-taken (some e) = e
+abbrev pub taken : Option (Contents Entry) → Contents Entry
+taken none = record { entries = end; work = 0; depth = 0 }
+taken (some c) = c
 
 -- "settings apply afterwards, in order, the last winning"
 abbrev pub apply : List Setting → List ℤ → List ℤ
 apply [] table = table
 apply (s ∷ ss) table = apply ss (set table (s .number) (s .value))
 
--- an accepted line: "acceptance leaves output past the commands unchanged"
+-- an accepted line: "acceptance leaves output past the commands unchanged"; "Every accepted line reports the values and operations worked out"
 abbrev pub over : List ℤ → List ℤ → List ℤ
 over zs out = zs ++ drop (length zs) out
 
-abbrev pub accepted : Took Entry → Block → Record → List ℤ → List ℤ → After
-accepted e b r table out =
-    leaving (answerOf 0 (length (commands b (ready b r)))) (left b r) (apply (settings e) table) (over (written (commands b (ready b r))) out)
+abbrev pub accepted : Contents Entry → Block → Record → List ℤ → List ℤ → After
+accepted c b r table out =
+    worth (c .work) (answerOf 0 (length (commands b (ready b r)))) (left b r) (apply (settings (c .entries)) table) (over (written (commands b (ready b r))) out)
 
--- "Numbers a refused line carries", each "given exactly when no earlier one applies"
-abbrev pub numbers : Bool → Took Entry → Block → List ℕ → Bool → Record → List ℤ → ℕ → List Case
-numbers wrong e b line switch r table room =
+-- "Numbers a refused line carries", each "given exactly when no earlier one applies"; 16 is "checked after 3 and before 4"
+abbrev pub numbers : Bool → Contents Entry → Block → List ℕ → Bool → Record → List ℤ → ℕ → List Case
+numbers wrong c b line switch r table room =
     (1 when disorder r table)
     ∷ (2 when ltb 256 (length line))
     ∷ (100 when (switch && slashed line))
     ∷ (3 when wrong)
-    ∷ (4 when meets e 4)
-    ∷ (5 when meets e 5)
-    ∷ (6 when meets e 6)
-    ∷ (7 when meets e 7)
-    ∷ refusals (words e) b (ready b r) room
+    ∷ (16 when tooDeep c)
+    ∷ (4 when meets (c .entries) 4)
+    ∷ (5 when meets (c .entries) 5)
+    ∷ (6 when meets (c .entries) 6)
+    ∷ (7 when meets (c .entries) 7)
+    ∷ refusals (words (c .entries)) b (ready b r) room
 
 -- "Every refusal and skip returns count 0 and leaves record, table and output unchanged"
-abbrev pub byNumber : ℕ → Took Entry → Block → Record → List ℤ → List ℤ → After
-byNumber n e b r table out =
-    cond (eqb n 0) (accepted e b r table out) (leaving (answerOf n 0) r table out)
+abbrev pub byNumber : ℕ → Contents Entry → Block → Record → List ℤ → List ℤ → After
+byNumber n c b r table out =
+    cond (eqb n 0) (accepted c b r table out) (leaving (answerOf n 0) r table out)
 
-abbrev pub judged : Bool → Took Entry → Block → List ℕ → Bool → Record → List ℤ → List ℤ → After
-judged wrong e b line switch r table out = byNumber (first (numbers wrong e b line switch r table (length out))) e b r table out
+abbrev pub judged : Bool → Contents Entry → Block → List ℕ → Bool → Record → List ℤ → List ℤ → After
+judged wrong c b line switch r table out = byNumber (first (numbers wrong c b line switch r table (length out))) c b r table out
 
 -- what is left after a line whose reading is known
-unfoldable pub answerTo : Option (Took Entry) → List ℕ → Bool → Record → List ℤ → List ℤ → After
-answerTo e line switch r table out = judged (underived e) (taken e) (blockOf (words (taken e))) line switch r table out
+unfoldable pub answerTo : Option (Contents Entry) → List ℕ → Bool → Record → List ℤ → List ℤ → After
+answerTo c line switch r table out = judged (underived c) (taken c) (blockOf (words (taken c .entries))) line switch r table out
 
 -- what is left for a derivation, or for none
 abbrev pub answer : Option Line → List ℕ → Bool → Record → List ℤ → List ℤ → After

@@ -94,3 +94,9 @@ pub struct Outcome {
     pub answer: Answer,
     pub rec: Record,
 }
+
+// All that a line reports: its outcome, and how many values and operations were worked out, 0 unless it was accepted.
+pub struct Report {
+    pub outcome: Outcome,
+    pub work: u64,
+}

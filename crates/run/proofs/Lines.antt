@@ -13,7 +13,7 @@ use lib.ListN.{length, take, getD, length-append, replicate}
 use lib.Seq.{take-suc}
 use Rattle.grammar.specs.Bytes.{byte}
 use Rattle.grammar.specs.Grammar.{Line}
-use Rattle.grammar.specs.Working.{Took}
+use Rattle.grammar.specs.Working.{Contents}
 use Rattle.rules.specs.Meaning.{Entry, reading, words}
 use Rattle.rules.specs.Block.{blockOf}
 use Rattle.rules.specs.Refusals.{first}
@@ -80,18 +80,18 @@ stays-long n l (b ∷ more) h =
     by false later = later
 
 -- every line of more than 256 bytes is refused alike: with number 2, unless the record or the table is out of order
-long-number : (wrong : Bool) (e : Took Entry) (b : Block) (l : List ℕ) (switch : Bool) (r : Record) (table : List ℤ) (room : ℕ) → 256 < length l
+long-number : (wrong : Bool) (e : Contents Entry) (b : Block) (l : List ℕ) (switch : Bool) (r : Record) (table : List ℤ) (room : ℕ) → 256 < length l
     → first (numbers wrong e b l switch r table room) ≡ cond (disorder r table) 1 2
 long-number wrong e b l switch r table room h = rw (lt-ltb 256 (length l) h)
 
-long-refused : (f : Option (Took Entry)) (l : List ℕ) (switch : Bool) (r : Record) (table out : List ℤ) → 256 < length l
+long-refused : (f : Option (Contents Entry)) (l : List ℕ) (switch : Bool) (r : Record) (table out : List ℤ) → 256 < length l
     → answerTo f l switch r table out ≡ leaving (Refused (cond (disorder r table) 1 2)) r table out
 unfolding answerTo
 long-refused f l switch r table out h =
-    ap (λ (n : ℕ). byNumber n (taken f) (blockOf (words (taken f))) r table out) (long-number (underived f) (taken f) (blockOf (words (taken f))) l switch r table (length out) h)
-    ∙ by (disorder r table) (taken f) (blockOf (words (taken f)))
+    ap (λ (n : ℕ). byNumber n (taken f) (blockOf (words (taken f .entries))) r table out) (long-number (underived f) (taken f) (blockOf (words (taken f .entries))) l switch r table (length out) h)
+    ∙ by (disorder r table) (taken f) (blockOf (words (taken f .entries)))
   where
-    by : (t : Bool) (e : Took Entry) (b : Block) → byNumber (cond t 1 2) e b r table out ≡ leaving (Refused (cond t 1 2)) r table out
+    by : (t : Bool) (e : Contents Entry) (b : Block) → byNumber (cond t 1 2) e b r table out ≡ leaving (Refused (cond t 1 2)) r table out
     by true e b = refl
     by false e b = refl
 

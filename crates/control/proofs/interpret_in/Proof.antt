@@ -12,7 +12,7 @@ returns c =
     let s = c .before .before .before .args in
     let old = spaces (s .letters .now) (s .values .now) (s .numbers .now) (s .amounts .now) in
     let z = c .before .if1 .taken in
-    (kept-table (s .line .now) (s .switch) (s .rec) (s .table .now) (s .out .now) z (c .refused .ensures), lends-table (s .line .now) (s .switch) (s .table .now) old z)
+    (kept-table (s .line .now) (s .switch) (s .rec) (s .table .now) (s .out .now) z (c .unchanged .ensures), lends-table (s .line .now) (s .switch) (s .table .now) old z)
 
 returns-2 : tie.Need-returns-2
 returns-2 c =

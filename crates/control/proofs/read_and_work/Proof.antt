@@ -7,16 +7,13 @@ use Rattle.control.proofs.Keeping.{kept-read, kept-refused, lends-read}
 use Rattle.control.proofs.read_and_work.Statement.{statement}
 use Rattle.control.proofs.read_and_work.Tie as tie
 
-enum-told : tie.Need-enum-told
-enum-told c = search needs
-
 returns : tie.Need-returns
 returns c =
     let s = c .before .before .before .before .before .before .before .before .before .before .before .before .before .before .before .before .before .before .before .args in
     let p = c .before .before .before .before .before .before .before .before .before .before .before .before .before .before .before .before .before .before .before .pre in
     let old = spaces (s .letters .now) (s .values .now) (s .numbers .now) (s .amounts .now) in
     let f = c .before .before .finish .ensures in (
-      kept-read (s .line .now) (s .switch) (s .rec) (s .table .now) (s .out .now) (p .0) (p .1) (p .2) old (p .3) (p .4) (p .5) (p .6) (rw (c .before .before .before .before .before .before .before .before .before .before .words .given .1) at (c .before .before .before .before .before .before .before .before .before .before .before .before .read .ensures)) (f .0) (f .1),
+      kept-read (s .line .now) (s .switch) (s .rec) (s .table .now) (s .out .now) (p .0) (p .1) (p .2) old (p .3) (p .4) (p .5) (p .6) (rw (c .before .before .before .before .before .before .before .before .before .before .words .given .1) at (c .before .before .before .before .before .before .before .before .before .before .before .before .read .ensures)) (f .0) (f .1) (f .2),
       lends-read (s .line .now) (s .switch) (s .table .now) old (p .0) (p .1) (p .2) (c .before .before .before .before .before .before .before .before .before .before .before .before .read .ensures),
     )
 
@@ -47,6 +44,15 @@ returns-4 c =
       lends-read (s .line .now) (s .switch) (s .table .now) old (p .0) (p .1) (p .2) (c .before .before .before .read .ensures),
     )
 
+returns-5 : tie.Need-returns-5
+returns-5 c =
+    let s = c .before .before .before .before .before .before .before .before .before .before .args in
+    let p = c .before .before .before .before .before .before .before .before .before .before .pre in
+    let old = spaces (s .letters .now) (s .values .now) (s .numbers .now) (s .amounts .now) in (
+      kept-refused (s .line .now) (s .switch) (s .rec) (s .table .now) (s .out .now) (p .0) (p .1) (p .2) old (p .3) (p .4) (p .5) (p .6) (rw (c .before .enum-told3 .given .1) at (c .before .before .before .read .ensures)) _ refl (c .answered4 .ensures),
+      lends-read (s .line .now) (s .switch) (s .table .now) old (p .0) (p .1) (p .2) (c .before .before .before .read .ensures),
+    )
+
 pub read-and-work-spec : {M : Type 1} → statement M
 read-and-work-spec =
     tie.close
@@ -56,10 +62,12 @@ read-and-work-spec =
     (λ c κs. search needs)
     (λ c. search needs)
     (λ c κs. search needs)
-    enum-told
+    (λ c. search needs)
     (λ c κs. search needs)
     (λ c. search needs)
     (λ c κs. search needs)
+    (λ c. search needs)
+    (λ c. search needs)
     (λ c. search needs)
     (λ c. search needs)
     returns
@@ -68,4 +76,6 @@ read-and-work-spec =
     (λ c. search needs)
     returns-3
     (λ c. search needs)
-    returns-4)
+    returns-4
+    (λ c. search needs)
+    returns-5)

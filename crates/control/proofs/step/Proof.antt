@@ -1,5 +1,5 @@
 -- `control::step` meets its contract: a walk of its MIR, by hand. The borrow of the record is opened once, its value is copied whole to `interpret`, which is called at the slices' own lifetimes, shares and names, and the record that comes back is stored whole before the borrow is closed.
--- No line names a field of the record or a case of the answer: a change of either leaves this file as it is.
+-- No line names a field of the record or a case of the answer: a change of either leaves this file as it is. The report is handed back whole.
 -- Assumes nothing.
 use mathlib.Core.Path.{_≡_, refl, ap}
 use Prim.Native.Nat.{ℕ}
@@ -36,7 +36,6 @@ use denote.Signature.{plain}
 use denote.Steps.{only, opens, closes, owned, peeks, facts, heard, nothing}
 use denote.Struct.Steps.{spelt}
 use denote.Struct.Laws as LL
-use denote.Enum.Laws as EL
 use denote.Triple.Entry.{Args, Vals, onEntry}
 use denote.Triple.Spec.{Meets, tripleOf}
 use denote.Triple.Statement.{Contract, Triple}
@@ -47,14 +46,13 @@ use denote.Triple.Walked.{says, Stays, stay-none, stay-none-slice, stay-ref, gav
 use denote.Exit.{yes}
 use Rattle.rules.specs.Promise.{Right, after}
 use Rattle.rules.specs.declared.Record.{Record}
-use Rattle.rules.specs.declared.Answer.{Answer}
-use Rattle.rules.specs.declared.Outcome.{Outcome}
+use Rattle.rules.specs.declared.Report.{Report}
 use Rattle.rules.proofs.Record as R
 use Rattle.rules.proofs.Record.Laws as R′
-use Rattle.rules.proofs.Answer as S
-use Rattle.rules.proofs.Answer.Laws as S′
 use Rattle.rules.proofs.Outcome as O
 use Rattle.rules.proofs.Outcome.Laws as O′
+use Rattle.rules.proofs.Report as P
+use Rattle.rules.proofs.Report.Laws as P′
 use Rattle.control.proofs.interpret as callee
 use Rattle.control.proofs.interpret.Symbol as callee-def
 use Rattle.control.proofs.interpret.Symbol.{name as #callee}
@@ -72,18 +70,18 @@ stayed = (stay-none-slice (0 ∷ []) tt (plain (λ _. u8)) yes, (stay-none (λ _
 abbrev Callee : {M : Type 1} (𝓤 : URA M) (H : Heap 𝓤) (A : Atoms 𝓤) (mem : Memory → SProp 𝓤) (run : Routine → Fun 𝓤) → Contract 𝓤
 Callee 𝓤 H A mem run = tripleOf 𝓤 H A callee.signature (callee.spec 𝓤 H A mem run)
 
--- machine values, and what the relation of an `Outcome` says of its two fields
+-- machine values, and what the relation of a `Report` says of the record in it
 abbrev rec-val : Record → Val
 rec-val h = LL.val R.the-type R′.the-laws h
 
-abbrev ans-val : Answer → Val
-ans-val a = EL.val S.the-type S′.the-laws a
+abbrev report-val : Report → Val
+report-val r = LL.val P.the-type P′.the-laws r
 
-rec-is : (r : Outcome) (w : Val) → Is O.the-row r (w ∷ []) → Is R.the-row (r .rec) (rec-val (r .rec) ∷ [])
-rec-is r w is = LL.owed O.the-type O′.the-laws r _ is .1 .0
+rec-is : (r : Report) (w : Val) → Is P.the-row r (w ∷ []) → Is R.the-row (r .outcome .rec) (rec-val (r .outcome .rec) ∷ [])
+rec-is r w is = LL.owed O.the-type O′.the-laws (r .outcome) _ (LL.owed P.the-type P′.the-laws r _ is .0) .1 .0
 
-ans-is : (r : Outcome) (w : Val) → Is O.the-row r (w ∷ []) → Is S.the-row (r .answer) (ans-val (r .answer) ∷ [])
-ans-is r w is = LL.owed O.the-type O′.the-laws r _ is .0
+report-is : (r : Report) (w : Val) → Is P.the-row r (w ∷ []) → Is P.the-row r (report-val r ∷ [])
+report-is r w is = LL.owes P.the-type P′.the-laws r (LL.owed P.the-type P′.the-laws r _ is)
 
 module _ {M : Type 1} (𝓤 : URA M) (H : Heap 𝓤) (A : Atoms 𝓤) (W : Given 𝓤 H A) (at-mem : Memory → SProp 𝓤) (run : Routine → Fun 𝓤) (κ₀ κ₁ κ₂ κ₃ : Lft) (q₀ q₁ q₂ q₃ : Share) (line : RefT (List ℕ)) (s : Bool) (b o : ℕ) (γ : GName) (h : Record) (t u : RefT (List ℤ)) where
   abbrev κs : Lfts 4
@@ -118,7 +116,7 @@ module _ {M : Type 1} (𝓤 : URA M) (H : Heap 𝓤) (A : Atoms 𝓤) (W : Given
   Toks = ‵ (flft κ₀ q₀) ⊛ (‵ (flft κ₂ q₂) ⊛ (‵ (flft κ₃ q₃) ⊛ ‵ ftrue))
 
   -- what `interpret` says of its result r and of the slices' last lists
-  abbrev Said : Outcome → List ℤ → List ℤ → Type 0
+  abbrev Said : Report → List ℤ → List ℤ → Type 0
   Said r zt zu = Right (now line) s h (now t) (now u) (after r zt zu)
 
   asked : Is R.the-row h (rec-val h ∷ []) → ent 𝓤 (⋆ 𝓤 H A (Line ∷ ‵ (MutSlice (named 2) κ₂ i64 .own t (slice-vals t)) ∷ ‵ (MutSlice (named 3) κ₃ i64 .own u (slice-vals u)) ∷ Toks ∷ [])) (Callee 𝓤 H A at-mem run .pre to)
@@ -127,18 +125,18 @@ module _ {M : Type 1} (𝓤 : URA M) (H : Heap 𝓤) (A : Atoms 𝓤) (W : Given
       nothing ! $ move ! (3 ∷ 0 ∷ []) $ fjoin ! $ move ! (2 ∷ 0 ∷ []) $ fjoin ! $ owned ! R.the-row (Is R.the-row) (LL.makes R.the-type R′.the-plain 𝓤 H A) h _ was $ fjoin ! $
       owned ! bool (Is bool) (bool-makes 𝓤 H A W) s _ refl $ fjoin ! $ move ! (1 ∷ 0 ∷ []) $ fjoin ! $ move ! (1 ∷ 0 ∷ []) $ join ! $ nothing ! $ move ! (1 ∷ 0 ∷ []) $ done !
 
-  exits : (r : Outcome) (w : Val) → Is O.the-row r (w ∷ []) → (zt zu : List ℤ) → Said r zt zu → length zt ≡ length (now t) → length zu ≡ length (now u)
-      → ent 𝓤 (⋆ 𝓤 H A (‵ (fobs γ (R.the-row .coded .code (r .rec))) ∷ ‵ (fbor κ₁ (Body (mem R.the-row) b o γ)) ∷ ‵ (flft κ₁ q₁) ∷ Toks ∷ ‵ (finally i64 (u .name) zu) ∷ ‵ (finally i64 (t .name) zt) ∷ Line ∷ [])) (Post (ans-val (r .answer)))
+  exits : (r : Report) (w : Val) → Is P.the-row r (w ∷ []) → (zt zu : List ℤ) → Said r zt zu → length zt ≡ length (now t) → length zu ≡ length (now u)
+      → ent 𝓤 (⋆ 𝓤 H A (‵ (fobs γ (R.the-row .coded .code (r .outcome .rec))) ∷ ‵ (fbor κ₁ (Body (mem R.the-row) b o γ)) ∷ ‵ (flft κ₁ q₁) ∷ Toks ∷ ‵ (finally i64 (u .name) zu) ∷ ‵ (finally i64 (t .name) zt) ∷ Line ∷ [])) (Post (report-val r))
   exits r w is zt zu e lt lu =
-      qed W (‵ (fobs γ (R.the-row .coded .code (r .rec))) ∷ ‵ (fbor κ₁ (Body (mem R.the-row) b o γ)) ∷ ‵ (flft κ₁ q₁) ∷ Toks ∷ ‵ (finally i64 (u .name) zu) ∷ ‵ (finally i64 (t .name) zt) ∷ Line ∷ []) ∵
-      suffices ! _ (ends-at 𝓤 H A f.ended stayed (f.clauses 𝓤 H A at-mem run) W ((κs, qs, tt, a, vals), tt) (ans-val (r .answer)) (r .answer) (tt, (tt, (r .rec, (zt, (zu, tt))))) (tt, (tt, (tt, (lt, (lu, tt)))))) $
-      says ! e $
+      qed W (‵ (fobs γ (R.the-row .coded .code (r .outcome .rec))) ∷ ‵ (fbor κ₁ (Body (mem R.the-row) b o γ)) ∷ ‵ (flft κ₁ q₁) ∷ Toks ∷ ‵ (finally i64 (u .name) zu) ∷ ‵ (finally i64 (t .name) zt) ∷ Line ∷ []) ∵
+      suffices ! _ (ends-at 𝓤 H A f.ended stayed (f.clauses 𝓤 H A at-mem run) W ((κs, qs, tt, a, vals), tt) (report-val r) r (tt, (tt, (r .outcome .rec, (zt, (zu, tt))))) (tt, (tt, (tt, (lt, (lu, tt)))))) $
+      says ! (e, refl) $
       -- the tokens, in the signature's order
       move ! (3 ∷ []) $ split ! $ move ! (4 ∷ 1 ∷ []) $ join ! $ move ! (1 ∷ 0 ∷ []) $ join ! $ frame ! $
       -- [obs; the borrow; u's last list; t's; the line]: what is had of the parameters, from the last to the first
       feqI ! (List Val) (vptr b o ∷ []) (vptr b o ∷ []) refl $ fjoin3 ! $ nothing ! $ move ! (2 ∷ 0 ∷ []) $ fjoin ! $ move ! (2 ∷ 0 ∷ []) $ fjoin ! $ move ! (1 ∷ 0 ∷ []) $ fjoin ! $
       owned ! bool (Is bool) (bool-makes 𝓤 H A W) s _ refl $ fjoin ! $ move ! (1 ∷ 0 ∷ []) $ fjoin ! $ frame ! $
-      owned ! S.the-row (Is S.the-row) (EL.makes S.the-type S′.the-plain 𝓤 H A) (r .answer) _ (ans-is r w is) $ done !
+      owned ! P.the-row (Is P.the-row) (LL.makes P.the-type P′.the-plain 𝓤 H A) r _ (report-is r w is) $ done !
 
   module _ (C : Calls 𝓤 H) (Λ : Loops 𝓤 H) (fm : FmC 𝓤 H (W .laws) C) (known : Triple 𝓤 (C #callee) (Callee 𝓤 H A at-mem run)) where
     walk : Is (ShrSlice (named 0) κ₀ u8) line (slice-vals line) → Is (MutSlice (named 2) κ₂ i64) t (slice-vals t) → Is (MutSlice (named 3) κ₃ i64) u (slice-vals u)
@@ -167,20 +165,20 @@ module _ {M : Type 1} (𝓤 : URA M) (H : Heap 𝓤) (A : Atoms 𝓤) (W : Given
         move ! (0 ∷ 31 ∷ 32 ∷ 33 ∷ []) $ group ! 4 $ use1 W (raw (Callee 𝓤 H A at-mem run .pre to)) (asked was) $
         -- [what is asked; the line; the record's cell; what it owns; the open borrow; obs; auth; _11 at 7; …; true]
         calls-at ! fm (Callee 𝓤 H A at-mem run) known to (and-then ! (load ! (from ! (stop !)) (look ! 27 refl)) (and-then ! (load ! (from ! (stop !)) (look ! 25 refl)) (and-then ! (load ! (from ! (stop !)) (look ! 15 refl)) (and-then ! (load ! (from ! (stop !)) (look ! 11 refl)) (and-then ! (load ! (from ! (stop !)) (look ! 7 refl)) (no-more !)))))) (λ w.
-        use1 W (later (some (λ (r : Outcome). (Toks ⊛ ‵ (O.the-row .own r (w ∷ []))) ⊛ raw (ensured 𝓤 H A callee.ended (callee.clauses 𝓤 H A at-mem run) κs′ a′ tt r)))) (id⊢ 𝓤 _) $ await ! tt $ pick ! (λ r.
+        use1 W (later (some (λ (r : Report). (Toks ⊛ ‵ (P.the-row .own r (w ∷ []))) ⊛ raw (ensured 𝓤 H A callee.ended (callee.clauses 𝓤 H A at-mem run) κs′ a′ tt r)))) (id⊢ 𝓤 _) $ await ! tt $ pick ! (λ r.
         -- what `interpret` ensures, at some last lists
         split ! $ move ! (1 ∷ []) $ use1 W (some (λ (zs : Lasts callee.ended κs′ a′). ‵ (lasts callee.ended κs′ a′ zs) ⊛ raw (fact 𝓤 (Said r (zs .1 .1 .1 .0) (zs .1 .1 .1 .1 .0))))) (id⊢ 𝓤 _) $ pick ! (λ zs.
         split ! $ move ! (1 ∷ []) $ heard ! (Said r (zs .1 .1 .1 .0) (zs .1 .1 .1 .1 .0)) (λ e. fsplit ! $ drop ! $ fsplit ! $ drop ! $ fsplit ! $ drop ! $
         fsplit ! $ fsplit ! $ move ! (1 ∷ []) $ feqL ! (λ lt. move ! (1 ∷ []) $ fsplit ! $ fsplit ! $ move ! (1 ∷ []) $ feqL ! (λ lu.
         -- [u's last list; true; t's last list; the tokens and the result; the line; …]
-        move ! (3 ∷ []) $ split ! $ move ! (1 ∷ []) $ facts ! O.the-row (Is O.the-row) (shows 𝓤 H A O.the-row) r (w ∷ []) (λ is.
+        move ! (3 ∷ []) $ split ! $ move ! (1 ∷ []) $ facts ! P.the-row (Is P.the-row) (shows 𝓤 H A P.the-row) r (w ∷ []) (λ is.
         -- [the tokens; u's last list; true; t's last list; the line; the record's cell at 5; what it owned; the open borrow; obs; auth; _11 at 10; …; _0 at 32; …]
-        land ! (from ! (stop !)) (init ! 20 refl (LL.lawful O.the-type O′.the-laws 𝓤 H A W .typed r _ is .0)) $
-        rewrite ! 20 (λ (x : Val). ‵ (fat fullShare O′.mir l₆ 0 x)) (ap only (LL.tells O.the-type O′.the-laws r _ is)) refl $
-        assigns ! (of-opd ! (load ! (from ! (fld ! refl (stop !))) (look-in ! 20 (sub ! 1 refl (whole !))))) (from ! (hop ! (look ! 26 refl) (stop !))) (store-raw ! 5 refl (LL.lawful R.the-type R′.the-laws 𝓤 H A W .typed (r .rec) _ (rec-is r w is) .0)) $
-        assigns ! (of-opd ! (load ! (from ! (fld ! refl (stop !))) (look-in ! 20 (sub ! 0 refl (whole !))))) (from ! (stop !)) (init ! 32 refl (EL.lawful S.the-type S′.the-laws 𝓤 H A W tt .typed (r .answer) _ (ans-is r w is) .0)) $
+        land ! (from ! (stop !)) (init ! 20 refl (LL.lawful P.the-type P′.the-laws 𝓤 H A W .typed r _ is .0)) $
+        rewrite ! 20 (λ (x : Val). ‵ (fat fullShare P′.mir l₆ 0 x)) (ap only (LL.tells P.the-type P′.the-laws r _ is)) refl $
+        assigns ! (of-opd ! (load ! (from ! (fld ! refl (fld ! refl (stop !)))) (look-in ! 20 (sub ! 1 refl (sub ! 0 refl (whole !)))))) (from ! (hop ! (look ! 26 refl) (stop !))) (store-raw ! 5 refl (LL.lawful R.the-type R′.the-laws 𝓤 H A W .typed (r .outcome .rec) _ (rec-is r w is) .0)) $
+        assigns ! (of-opd ! (load ! (from ! (stop !)) (look ! 20 refl))) (from ! (stop !)) (init ! 32 refl (LL.lawful P.the-type P′.the-laws 𝓤 H A W .typed r _ (report-is r w is) .0)) $
         -- the borrow is closed at the new record
-        move ! (6 ∷ []) $ drop ! $ owned ! R.the-row (Is R.the-row) (LL.makes R.the-type R′.the-plain 𝓤 H A) (r .rec) _ (rec-is r w is) $ move ! (6 ∷ 0 ∷ 7 ∷ 8 ∷ 9 ∷ []) $ closes ! tt R.the-row (r .rec) (rec-val (r .rec) ∷ []) b o $
+        move ! (6 ∷ []) $ drop ! $ owned ! R.the-row (Is R.the-row) (LL.makes R.the-type R′.the-plain 𝓤 H A) (r .outcome .rec) _ (rec-is r w is) $ move ! (6 ∷ 0 ∷ 7 ∷ 8 ∷ 9 ∷ []) $ closes ! tt R.the-row (r .outcome .rec) (rec-val (r .outcome .rec) ∷ []) b o $
         returns ! (look ! 30 refl) $ forget ! 8 refl $ forget ! 10 refl $ forget ! 12 refl $ forget ! 14 refl $ forget ! 16 refl $ forget ! 18 refl $ forget ! 20 refl $ forget ! 22 refl $ forget ! 24 refl $ forget ! 26 refl $ forget ! 28 refl $ forget ! 30 refl $
         move ! (30 ∷ 31 ∷ []) $ free1 ! $ move ! (28 ∷ 29 ∷ []) $ free1 ! $ move ! (26 ∷ 27 ∷ []) $ free1 ! $ move ! (24 ∷ 25 ∷ []) $ free1 ! $ move ! (22 ∷ 23 ∷ []) $ free1 ! $ move ! (20 ∷ 21 ∷ []) $ free1 ! $ move ! (18 ∷ 19 ∷ []) $ free1 ! $ move ! (16 ∷ 17 ∷ []) $ free1 ! $ move ! (14 ∷ 15 ∷ []) $ free1 ! $ move ! (12 ∷ 13 ∷ []) $ free1 ! $ move ! (10 ∷ 11 ∷ []) $ free1 ! $ move ! (8 ∷ 9 ∷ []) $ free1 ! $ free0 ! $
         keep ! (0 ∷ 1 ∷ 2 ∷ 3 ∷ 4 ∷ 6 ∷ 7 ∷ []) $ by ! (exits r w is (zs .1 .1 .1 .0) (zs .1 .1 .1 .1 .0) e lt lu))))))))))))))))))))))

@@ -38,7 +38,6 @@ use denote.Signature.{plain}
 use denote.Steps.{only, owned, peeks, facts, heard, nothing}
 use denote.Struct.Steps.{spelt}
 use denote.Struct.Laws as LL
-use denote.Enum.Laws as EL
 use denote.Triple.Entry.{Args, Vals, onEntry}
 use denote.Triple.Spec.{Meets, tripleOf}
 use denote.Triple.Statement.{Contract, Triple}
@@ -47,16 +46,13 @@ use denote.Triple.Clauses.{Lasts, ensured, lasts}
 use denote.Triple.Table.{entered, cited}
 use denote.Triple.Walked.{says, Stays, stay-none, stay-none-slice, gave-slice, walkOf, AllGo, goes-none, goes-none-slice, goes-gave-slice, Walks, ends-at, walked, walk-meets}
 use denote.Exit.{yes}
-use Rattle.rules.specs.Promise.{Right, leaving}
+use Rattle.rules.specs.Promise.{Right, after}
 use Rattle.rules.specs.declared.Record.{Record}
-use Rattle.rules.specs.declared.Answer.{Answer}
-use Rattle.rules.specs.declared.Outcome.{Outcome}
+use Rattle.rules.specs.declared.Report.{Report}
 use Rattle.rules.proofs.Record as R
 use Rattle.rules.proofs.Record.Laws as R′
-use Rattle.rules.proofs.Answer as S
-use Rattle.rules.proofs.Answer.Laws as S′
-use Rattle.rules.proofs.Outcome as O
-use Rattle.rules.proofs.Outcome.Laws as O′
+use Rattle.rules.proofs.Report as P
+use Rattle.rules.proofs.Report.Laws as P′
 use Rattle.control.proofs.step as callee
 use Rattle.control.proofs.step.Symbol as callee-def
 use Rattle.control.proofs.step.Symbol.{name as #callee}
@@ -77,15 +73,11 @@ Callee 𝓤 H A mem run = tripleOf 𝓤 H A callee.signature (callee.spec 𝓤 H
 abbrev rec-val : Record → Val
 rec-val h = LL.val R.the-type R′.the-laws h
 
-abbrev ans-val : Answer → Val
-ans-val x = EL.val S.the-type S′.the-laws x
+abbrev report-val : Report → Val
+report-val r = LL.val P.the-type P′.the-laws r
 
-abbrev out-of : Answer → Record → Outcome
-out-of x h = record { answer = x; rec = h }
-
--- what whoever builds an `Outcome` owes
-out-is : (x : Answer) (w : Val) (h : Record) → Is S.the-row x (w ∷ []) → Is R.the-row h (rec-val h ∷ []) → Is O.the-row (out-of x h) (LL.vals O.the-type O′.the-laws (out-of x h))
-out-is x w h is ir = LL.owes O.the-type O′.the-laws (out-of x h) (EL.owes S.the-type S′.the-laws x (EL.owed S.the-type S′.the-laws x _ is), (ir, tt))
+report-is : (r : Report) (w : Val) → Is P.the-row r (w ∷ []) → Is P.the-row r (report-val r ∷ [])
+report-is r w is = LL.owes P.the-type P′.the-laws r (LL.owed P.the-type P′.the-laws r _ is)
 
 -- a record in a local is lent as a `&mut`, and taken back at its last value
 module _ {M : Type 1} (𝓤 : URA M) (H : Heap 𝓤) (A : Atoms 𝓤) (W : Given 𝓤 H A) (κ : Lft) (h : Record) (l : ℕ) where
@@ -143,8 +135,8 @@ module _ {M : Type 1} (𝓤 : URA M) (H : Heap 𝓤) (A : Atoms 𝓤) (W : Given
   Toks = ‵ (flft κ₁ q₁) ⊛ (‵ (flft κ₂ q₂) ⊛ ‵ ftrue)
 
   -- what `step` says of its result g and of the last values
-  abbrev Said : Answer → Record → List ℤ → List ℤ → Type 0
-  Said g h′ zt zu = Right (now line) s h (now t) (now u) (leaving g h′ zt zu)
+  abbrev Said : Report → Record → List ℤ → List ℤ → Type 0
+  Said g h′ zt zu = Right (now line) s h (now t) (now u) (after g zt zu) × (h′ ≡ g .outcome .rec)
 
   abbrev Asked : (ν l : ℕ) (δ : GName) → List (Item 𝓤)
   Asked ν l δ = Line ∷ Lent ν l δ ∷ Tok ν ∷ ‵ (MutSlice (named 1) κ₁ i64 .own t (slice-vals t)) ∷ ‵ (MutSlice (named 2) κ₂ i64 .own u (slice-vals u)) ∷ (‵ (flft κ₀ q₀) ⊛ Toks) ∷ []
@@ -159,16 +151,16 @@ module _ {M : Type 1} (𝓤 : URA M) (H : Heap 𝓤) (A : Atoms 𝓤) (W : Given
   abbrev Left : List ℤ → List ℤ → List (Item 𝓤)
   Left zt zu = Toks ∷ ‵ (flft κ₀ q₀) ∷ ‵ (finally i64 (u .name) zu) ∷ ‵ (finally i64 (t .name) zt) ∷ Line ∷ []
 
-  exits : (g : Answer) (h′ : Record) → Is O.the-row (out-of g h′) (LL.vals O.the-type O′.the-laws (out-of g h′)) → (zt zu : List ℤ) → Said g h′ zt zu → length zt ≡ length (now t) → length zu ≡ length (now u)
-      → ent 𝓤 (⋆ 𝓤 H A (Left zt zu)) (Post (LL.val O.the-type O′.the-laws (out-of g h′)))
+  exits : (g : Report) (h′ : Record) → Is P.the-row g (report-val g ∷ []) → (zt zu : List ℤ) → Said g h′ zt zu → length zt ≡ length (now t) → length zu ≡ length (now u)
+      → ent 𝓤 (⋆ 𝓤 H A (Left zt zu)) (Post (report-val g))
   exits g h′ is zt zu e lt lu =
       qed W (Left zt zu) ∵
-      suffices ! _ (ends-at 𝓤 H A f.ended stayed (f.clauses 𝓤 H A at-mem run) W ((κs, qs, tt, a, vals), tt) (LL.val O.the-type O′.the-laws (out-of g h′)) (out-of g h′) (tt, (tt, (tt, (zt, (zu, tt))))) (tt, (tt, (tt, (lt, (lu, tt)))))) $
-      says ! e $ move ! (1 ∷ 0 ∷ []) $ join ! $ frame ! $
+      suffices ! _ (ends-at 𝓤 H A f.ended stayed (f.clauses 𝓤 H A at-mem run) W ((κs, qs, tt, a, vals), tt) (report-val g) g (tt, (tt, (tt, (zt, (zu, tt))))) (tt, (tt, (tt, (lt, (lu, tt)))))) $
+      says ! (e .0) $ move ! (1 ∷ 0 ∷ []) $ join ! $ frame ! $
       -- [u's last list; t's; the line]: what is had of the parameters, from the last to the first
       nothing ! $ move ! (1 ∷ 0 ∷ []) $ fjoin ! $ move ! (1 ∷ 0 ∷ []) $ fjoin ! $ owned ! R.the-row (Is R.the-row) (LL.makes R.the-type R′.the-plain 𝓤 H A) h _ was $ fjoin ! $
       owned ! bool (Is bool) (bool-makes 𝓤 H A W) s _ refl $ fjoin ! $ move ! (1 ∷ 0 ∷ []) $ fjoin ! $ frame ! $
-      owned ! O.the-row (Is O.the-row) (LL.makes O.the-type O′.the-plain 𝓤 H A) (out-of g h′) _ is $ done !
+      owned ! P.the-row (Is P.the-row) (LL.makes P.the-type P′.the-plain 𝓤 H A) g _ is $ done !
 
   module _ (C : Calls 𝓤 H) (Λ : Loops 𝓤 H) (fm : FmC 𝓤 H (W .laws) C) (known : Triple 𝓤 (C #callee) (Callee 𝓤 H A at-mem run)) where
     walk : Is (ShrSlice (named 0) κ₀ u8) line (slice-vals line) → Is (MutSlice (named 1) κ₁ i64) t (slice-vals t) → Is (MutSlice (named 2) κ₂ i64) u (slice-vals u)
@@ -178,41 +170,39 @@ module _ {M : Type 1} (𝓤 : URA M) (H : Heap 𝓤) (A : Atoms 𝓤) (W : Given
         move ! (1 ∷ []) $ fsplit ! $ move ! (1 ∷ []) $ fsplit ! $ drop ! $ fsplit ! $ drop ! $ fsplit ! $ move ! (1 ∷ []) $ fsplit ! $ move ! (3 ∷ 2 ∷ 0 ∷ 4 ∷ []) $
         -- [the line; t; u; the tokens; true]
         enter ! C Λ code.function _ _ $
-        alloc1 ! (λ l₀. alloc1 ! (λ l₁. alloc1 ! (λ l₂. alloc1 ! (λ l₃. alloc1 ! (λ l₄. alloc1 ! (λ l₅. alloc1 ! (λ l₆. alloc1 ! (λ l₇. alloc1 ! (λ l₈. alloc1 ! (λ l₉. alloc1 ! (λ l₁₀. alloc1 ! (λ l₁₁. alloc1 ! (λ l₁₂. alloc1 ! (λ l₁₃. alloc0 ! $ params1 ! $
-        pass1 ! (init ! 24 refl (shr-slice-lawful 𝓤 H A W (named 0) κ₀ u8 .typed line _ pl .0)) $ pass1 ! (init ! 22 refl (tt, tt)) $ pass1 ! (init ! 20 refl (LL.lawful R.the-type R′.the-laws 𝓤 H A W .typed h _ was .0)) $
-        pass1 ! (init ! 18 refl (mut-slice-lawful 𝓤 H A W (named 1) κ₁ i64 .typed t _ pt .0)) $ pass1 ! (init ! 16 refl (mut-slice-lawful 𝓤 H A W (named 2) κ₂ i64 .typed u _ pu .0)) $ pass0 ! $
-        -- [_13; …; _0 at 26; …; the line at 28; t; u; the tokens; true]
-        assigns ! (of-opd ! (load ! (from ! (stop !)) (look ! 20 refl))) (from ! (stop !)) (init ! 14 refl (LL.lawful R.the-type R′.the-laws 𝓤 H A W .typed h _ was .0)) $
-        assigns ! (addr ! (from ! (stop !))) (from ! (stop !)) (init ! 10 refl (tt, tt)) $
-        assigns ! (addr ! (from ! (fld ! refl (hop ! (look-in ! 18 (sub ! 0 refl (whole !))) (stop !))))) (from ! (stop !)) (init ! 8 refl (tt, tt)) $
-        assigns ! (agg ! (and-then ! (load ! (from ! (stop !)) (look ! 8 refl)) (and-then ! (load ! (from ! (fld ! refl (stop !))) (look-in ! 18 (sub ! 1 refl (whole !)))) (no-more !)))) (from ! (stop !)) (init ! 6 refl (tt, (tt, (record { fits = pt .0 .1 .0 }, tt)))) $
-        assigns ! (addr ! (from ! (fld ! refl (hop ! (look-in ! 16 (sub ! 0 refl (whole !))) (stop !))))) (from ! (stop !)) (init ! 4 refl (tt, tt)) $
-        assigns ! (agg ! (and-then ! (load ! (from ! (stop !)) (look ! 4 refl)) (and-then ! (load ! (from ! (fld ! refl (stop !))) (look-in ! 16 (sub ! 1 refl (whole !)))) (no-more !)))) (from ! (stop !)) (init ! 2 refl (tt, (tt, (record { fits = pu .0 .1 .0 }, tt)))) $
+        alloc1 ! (λ l₀. alloc1 ! (λ l₁. alloc1 ! (λ l₂. alloc1 ! (λ l₃. alloc1 ! (λ l₄. alloc1 ! (λ l₅. alloc1 ! (λ l₆. alloc1 ! (λ l₇. alloc1 ! (λ l₈. alloc1 ! (λ l₉. alloc1 ! (λ l₁₀. alloc1 ! (λ l₁₁. alloc0 ! $ params1 ! $
+        pass1 ! (init ! 20 refl (shr-slice-lawful 𝓤 H A W (named 0) κ₀ u8 .typed line _ pl .0)) $ pass1 ! (init ! 18 refl (tt, tt)) $ pass1 ! (init ! 16 refl (LL.lawful R.the-type R′.the-laws 𝓤 H A W .typed h _ was .0)) $
+        pass1 ! (init ! 14 refl (mut-slice-lawful 𝓤 H A W (named 1) κ₁ i64 .typed t _ pt .0)) $ pass1 ! (init ! 12 refl (mut-slice-lawful 𝓤 H A W (named 2) κ₂ i64 .typed u _ pu .0)) $ pass0 ! $
+        -- [_11; …; _0 at 22; …; the line at 24; t; u; the tokens; true]
+        assigns ! (of-opd ! (load ! (from ! (stop !)) (look ! 16 refl))) (from ! (stop !)) (init ! 10 refl (LL.lawful R.the-type R′.the-laws 𝓤 H A W .typed h _ was .0)) $
+        assigns ! (addr ! (from ! (stop !))) (from ! (stop !)) (init ! 8 refl (tt, tt)) $
+        assigns ! (addr ! (from ! (fld ! refl (hop ! (look-in ! 14 (sub ! 0 refl (whole !))) (stop !))))) (from ! (stop !)) (init ! 6 refl (tt, tt)) $
+        assigns ! (agg ! (and-then ! (load ! (from ! (stop !)) (look ! 6 refl)) (and-then ! (load ! (from ! (fld ! refl (stop !))) (look-in ! 14 (sub ! 1 refl (whole !)))) (no-more !)))) (from ! (stop !)) (init ! 4 refl (tt, (tt, (record { fits = pt .0 .1 .0 }, tt)))) $
+        assigns ! (addr ! (from ! (fld ! refl (hop ! (look-in ! 12 (sub ! 0 refl (whole !))) (stop !))))) (from ! (stop !)) (init ! 2 refl (tt, tt)) $
+        assigns ! (agg ! (and-then ! (load ! (from ! (stop !)) (look ! 2 refl)) (and-then ! (load ! (from ! (fld ! refl (stop !))) (look-in ! 12 (sub ! 1 refl (whole !)))) (no-more !)))) (from ! (stop !)) (init ! 0 refl (tt, (tt, (record { fits = pu .0 .1 .0 }, tt)))) $
         -- the record's local is lent for a lifetime ν of the call
-        lft-new ! tt (λ ν. move ! (15 ∷ []) $ use1 W (later (some (λ (δ : GName). Lent ν l₆ δ ⊛ ‵ (flent (ν ∷ []) (Body (mem R.the-row) l₆ 0 δ))))) (lend 𝓤 H A W (ν ∷ []) h l₆ was) $ await ! tt $ pick ! (λ δ. split ! $
-        -- [the borrow; the lender's part; ν's token; _13 at 3; …; _7 at 15; …; what frees _6 at 17; _5 at 18; …; _0 at 28; …; the line at 30; t; u; the tokens; true]
-        move ! (30 ∷ []) $ use1 W (Line ⊛ Line) (shr-slice-copy 𝓤 H A W (named 0) κ₀ u8 .twice line (slice-vals line)) $ split ! $
-        move ! (0 ∷ 2 ∷ 4 ∷ 32 ∷ 33 ∷ 34 ∷ []) $ group ! 6 $ use1 W (raw (Callee 𝓤 H A at-mem run .pre (to ν l₆ δ))) (asked ν l₆ δ) $
-        -- [what is asked; the line; the lender's part; _13 at 3; …; _7 at 15; …; what frees _6 at 17; _5 at 18; …; _0 at 28; …; true]
-        calls-at ! fm (Callee 𝓤 H A at-mem run) known (to ν l₆ δ) (and-then ! (load ! (from ! (stop !)) (look ! 26 refl)) (and-then ! (load ! (from ! (stop !)) (look ! 24 refl)) (and-then ! (load ! (from ! (stop !)) (look ! 13 refl)) (and-then ! (load ! (from ! (stop !)) (look ! 9 refl)) (and-then ! (load ! (from ! (stop !)) (look ! 5 refl)) (no-more !)))))) (λ w.
-        use1 W (later (some (λ (g : Answer). ((‵ (flft κ₀ q₀) ⊛ (Tok ν ⊛ Toks)) ⊛ ‵ (S.the-row .own g (w ∷ []))) ⊛ raw (ensured 𝓤 H A callee.ended (callee.clauses 𝓤 H A at-mem run) (κs′ ν) (a′ ν l₆ δ) tt g)))) (id⊢ 𝓤 _) $ await ! tt $ pick ! (λ g.
+        lft-new ! tt (λ ν. move ! (11 ∷ []) $ use1 W (later (some (λ (δ : GName). Lent ν l₆ δ ⊛ ‵ (flent (ν ∷ []) (Body (mem R.the-row) l₆ 0 δ))))) (lend 𝓤 H A W (ν ∷ []) h l₆ was) $ await ! tt $ pick ! (λ δ. split ! $
+        -- [the borrow; the lender's part; ν's token; _11 at 3; …; _7 at 11; …; what frees _6 at 13; _5 at 14; …; _0 at 24; …; the line at 26; t; u; the tokens; true]
+        move ! (26 ∷ []) $ use1 W (Line ⊛ Line) (shr-slice-copy 𝓤 H A W (named 0) κ₀ u8 .twice line (slice-vals line)) $ split ! $
+        move ! (0 ∷ 2 ∷ 4 ∷ 28 ∷ 29 ∷ 30 ∷ []) $ group ! 6 $ use1 W (raw (Callee 𝓤 H A at-mem run .pre (to ν l₆ δ))) (asked ν l₆ δ) $
+        -- [what is asked; the line; the lender's part; _11 at 3; …; _7 at 11; …; what frees _6 at 13; _5 at 14; …; _0 at 24; …; true]
+        calls-at ! fm (Callee 𝓤 H A at-mem run) known (to ν l₆ δ) (and-then ! (load ! (from ! (stop !)) (look ! 22 refl)) (and-then ! (load ! (from ! (stop !)) (look ! 20 refl)) (and-then ! (load ! (from ! (stop !)) (look ! 11 refl)) (and-then ! (load ! (from ! (stop !)) (look ! 7 refl)) (and-then ! (load ! (from ! (stop !)) (look ! 3 refl)) (no-more !)))))) (λ w.
+        use1 W (later (some (λ (g : Report). ((‵ (flft κ₀ q₀) ⊛ (Tok ν ⊛ Toks)) ⊛ ‵ (P.the-row .own g (w ∷ []))) ⊛ raw (ensured 𝓤 H A callee.ended (callee.clauses 𝓤 H A at-mem run) (κs′ ν) (a′ ν l₆ δ) tt g)))) (id⊢ 𝓤 _) $ await ! tt $ pick ! (λ g.
         -- what `step` ensures, at some last values
         split ! $ move ! (1 ∷ []) $ use1 W (some (λ (zs : Lasts callee.ended (κs′ ν) (a′ ν l₆ δ)). ‵ (lasts callee.ended (κs′ ν) (a′ ν l₆ δ) zs) ⊛ raw (fact 𝓤 (Said g (zs .1 .1 .0) (zs .1 .1 .1 .0) (zs .1 .1 .1 .1 .0))))) (id⊢ 𝓤 _) $ pick ! (λ zs.
         split ! $ move ! (1 ∷ []) $ heard ! (Said g (zs .1 .1 .0) (zs .1 .1 .1 .0) (zs .1 .1 .1 .1 .0)) (λ e. fsplit ! $ drop ! $ fsplit ! $ drop ! $ fsplit ! $ move ! (1 ∷ []) $
         fsplit ! $ fsplit ! $ move ! (1 ∷ []) $ feqL ! (λ lt. move ! (1 ∷ []) $ fsplit ! $ fsplit ! $ move ! (1 ∷ []) $ feqL ! (λ lu.
         -- [u's last list; true; t's last list; the record's last value; the tokens and the result; the line; the lender's part; …]
-        move ! (4 ∷ []) $ split ! $ move ! (1 ∷ []) $ facts ! S.the-row (Is S.the-row) (shows 𝓤 H A S.the-row) g (w ∷ []) (λ is.
-        -- [the tokens; u's last list; true; t's last list; the record's last value; the line; the lender's part; _13 at 7; …; _7 at 19; …; what frees _6 at 21; _5 at 22; …; _0 at 32; …]
-        land ! (from ! (stop !)) (init ! 19 refl (EL.lawful S.the-type S′.the-laws 𝓤 H A W tt .typed g _ is .0)) $ rewrite ! 19 (λ (y : Val). ‵ (fat fullShare S′.mir l₇ 0 y)) (ap only (EL.tells S.the-type S′.the-laws g _ is)) refl $
+        move ! (4 ∷ []) $ split ! $ move ! (1 ∷ []) $ facts ! P.the-row (Is P.the-row) (shows 𝓤 H A P.the-row) g (w ∷ []) (λ is.
+        -- [the tokens; u's last list; true; t's last list; the record's last value; the line; the lender's part; _11 at 7; …; what frees _6 at 17; _5 at 18; …; _0 at 28; …]
+        land ! (from ! (stop !)) (init ! 28 refl (LL.lawful P.the-type P′.the-laws 𝓤 H A W .typed g _ is .0)) $ rewrite ! 28 (λ (y : Val). ‵ (fat fullShare P′.mir l₀ 0 y)) (ap only (LL.tells P.the-type P′.the-laws g _ is)) refl $
         -- ν is ended, and the local is had again at the last value
         split ! $ move ! (1 ∷ []) $ split ! $ lft-end ! tt $ move ! (0 ∷ 8 ∷ 6 ∷ []) $ use3 W (later (‵ (mem R.the-row .lies (zs .1 .1 .0) l₆ 0))) (ref-back 𝓤 H A W R.the-row (ν ∷ []) δ (zs .1 .1 .0) l₆ 0) $ await ! tt $
         use1 W (given (Is R.the-row (zs .1 .1 .0) (rec-val (zs .1 .1 .0) ∷ [])) (‵ (fat fullShare R′.mir l₆ 0 (rec-val (zs .1 .1 .0))))) (back 𝓤 H A W (ν ∷ []) (zs .1 .1 .0) l₆) $ learn ! (λ ir.
-        -- [_6; two tokens; the line's token; u's last list; true; t's last list; the line; _13 at 7; …; _0 at 32; …]
-        assigns ! (of-opd ! (load ! (from ! (stop !)) (look ! 0 refl))) (from ! (stop !)) (init ! 7 refl (LL.lawful R.the-type R′.the-laws 𝓤 H A W .typed (zs .1 .1 .0) _ ir .0)) $
-        assigns ! (agg ! (and-then ! (load ! (from ! (stop !)) (look ! 19 refl)) (and-then ! (load ! (from ! (stop !)) (look ! 7 refl)) (no-more !)))) (from ! (stop !)) (init ! 32 refl (LL.lawful O.the-type O′.the-laws 𝓤 H A W .typed (out-of g (zs .1 .1 .0)) _ (out-is g w (zs .1 .1 .0) is ir) .0)) $
-        returns ! (look ! 32 refl) $ forget ! 0 refl $ forget ! 7 refl $ forget ! 9 refl $ forget ! 11 refl $ forget ! 13 refl $ forget ! 15 refl $ forget ! 17 refl $ forget ! 19 refl $ forget ! 22 refl $ forget ! 24 refl $ forget ! 26 refl $ forget ! 28 refl $ forget ! 30 refl $ forget ! 32 refl $
-        move ! (32 ∷ 33 ∷ []) $ free1 ! $ move ! (30 ∷ 31 ∷ []) $ free1 ! $ move ! (28 ∷ 29 ∷ []) $ free1 ! $ move ! (26 ∷ 27 ∷ []) $ free1 ! $ move ! (24 ∷ 25 ∷ []) $ free1 ! $ move ! (22 ∷ 23 ∷ []) $ free1 ! $ move ! (0 ∷ 21 ∷ []) $ free1 ! $ move ! (18 ∷ 19 ∷ []) $ free1 ! $ move ! (16 ∷ 17 ∷ []) $ free1 ! $ move ! (14 ∷ 15 ∷ []) $ free1 ! $ move ! (12 ∷ 13 ∷ []) $ free1 ! $ move ! (10 ∷ 11 ∷ []) $ free1 ! $ move ! (8 ∷ 9 ∷ []) $ free1 ! $ move ! (6 ∷ 7 ∷ []) $ free1 ! $ free0 ! $
-        keep ! (0 ∷ 1 ∷ 2 ∷ 4 ∷ 5 ∷ []) $ by ! (exits g (zs .1 .1 .0) (out-is g w (zs .1 .1 .0) is ir) (zs .1 .1 .1 .0) (zs .1 .1 .1 .1 .0) e lt lu)))))))))))))))))))))))))
+        -- [_6; two tokens; the line's token; u's last list; true; t's last list; the line; _11 at 7; …; _0 at 28; …]
+        returns ! (look ! 28 refl) $ forget ! 0 refl $ forget ! 7 refl $ forget ! 9 refl $ forget ! 11 refl $ forget ! 13 refl $ forget ! 15 refl $ forget ! 18 refl $ forget ! 20 refl $ forget ! 22 refl $ forget ! 24 refl $ forget ! 26 refl $ forget ! 28 refl $
+        move ! (28 ∷ 29 ∷ []) $ free1 ! $ move ! (26 ∷ 27 ∷ []) $ free1 ! $ move ! (24 ∷ 25 ∷ []) $ free1 ! $ move ! (22 ∷ 23 ∷ []) $ free1 ! $ move ! (20 ∷ 21 ∷ []) $ free1 ! $ move ! (18 ∷ 19 ∷ []) $ free1 ! $ move ! (0 ∷ 17 ∷ []) $ free1 ! $ move ! (14 ∷ 15 ∷ []) $ free1 ! $ move ! (12 ∷ 13 ∷ []) $ free1 ! $ move ! (10 ∷ 11 ∷ []) $ free1 ! $ move ! (8 ∷ 9 ∷ []) $ free1 ! $ move ! (6 ∷ 7 ∷ []) $ free1 ! $ free0 ! $
+        keep ! (0 ∷ 1 ∷ 2 ∷ 4 ∷ 5 ∷ []) $ by ! (exits g (zs .1 .1 .0) (report-is g w is) (zs .1 .1 .1 .0) (zs .1 .1 .1 .1 .0) e lt lu)))))))))))))))))))))))
 
 module _ {M : Type 1} (𝓤 : URA M) (H : Heap 𝓤) (A : Atoms 𝓤) (W : Given 𝓤 H A) (mem : Memory → SProp 𝓤) (run : Routine → Fun 𝓤) where
   walks : (C : Calls 𝓤 H) (Λ : Loops 𝓤 H) → FmC 𝓤 H (W .laws) C → Triple 𝓤 (C #callee) (Callee 𝓤 H A mem run) → Walks 𝓤 H A f.ended stayed (WpFn 𝓤 H C Λ code.function) (f.clauses 𝓤 H A mem run)

@@ -20,14 +20,14 @@ unpack-requires c κs = passed (c .before .before .holdable .ensures) (c .before
 
 pack-requires : tie.Need-pack-requires
 pack-requires c κs =
-    let work = c .before .before .before .before in
+    let work = c .before .before .before .before .before in
     let test = work .before .before .before .before .before in
     long (test .before .before .before .before .args .rec .now) (passed (test .before .holdable .ensures) (test .if1 .left))
 
 returns-2 : tie.Need-returns-2
 returns-2 c =
     let packing = c .before .before in
-    let working = packing .before .before .before .before .before in
+    let working = packing .before .before .before .before .before .before in
     let unpacking = working .before .before .before in
     let test = unpacking .before .before in
     let held = passed (test .before .holdable .ensures) (test .if1 .left) in

@@ -41,7 +41,7 @@ use denote.Triple.Table.{entered, cited}
 use denote.Triple.Walked.{says, Stays, stay-none, stay-none-slice, walkOf, goes-none, goes-none-slice, Walks, ends-at, walked, walk-meets}
 use denote.Exit.{yes}
 use denote.Triple.Clauses.{ensured, lasts}
-use Rattle.reader.specs.Places.{itemAt}
+use Rattle.reader.specs.Levels.{itemAt}
 use Rattle.reader.specs.declared.cursor.Reader.{Reader}
 use Rattle.reader.specs.declared.items.Item.{Item}
 use Rattle.reader.proofs.Carrying.{first, reader, mach, Line, Own, twice, line-of}

@@ -40,7 +40,7 @@ use denote.Triple.Walked.{says, Stays, stay-none, stay-none-slice, walkOf, goes-
 use denote.Exit.{yes}
 use denote.Triple.Clauses.{ensured, lasts}
 use Rattle.reader.specs.Cursor.{readerAt}
-use Rattle.reader.specs.Places.{itemAt}
+use Rattle.reader.specs.Levels.{itemAt}
 use Rattle.reader.specs.declared.cursor.Reader.{Reader}
 use Rattle.reader.specs.declared.items.Item.{Item}
 use Rattle.reader.proofs.Carrying.{reader, Line}

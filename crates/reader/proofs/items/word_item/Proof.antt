@@ -13,6 +13,9 @@ returns-2 c = rw (c .before .before .before .before .value .given .1, c .before 
 returns-3 : tie.Need-returns-3
 returns-3 c = rw (c .before .value2 .given .1)
 
+returns-4 : tie.Need-returns-4
+returns-4 c = rw (c .before .value3 .given .1)
+
 pub word-item-spec : {M : Type 1} → statement M
 word-item-spec =
     tie.close
@@ -21,6 +24,8 @@ word-item-spec =
     (λ c. search needs)
     (λ c. search needs)
     (λ c. search needs)
+    (λ c. search needs)
     returns
     returns-2
-    returns-3)
+    returns-3
+    returns-4)

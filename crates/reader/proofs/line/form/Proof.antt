@@ -18,10 +18,10 @@ enum-told : tie.Need-enum-told
 enum-told c = search needs
 
 returns : tie.Need-returns
-returns c = rw (c .enum-told .given .1) at (form-by-form _ (c .before .before .before .before .before .before .before .before .before .before .before .before .args .line .now) (short (c .before .before .before .before .before .before .before .before .before .before .before .before .args .line .now) _ refl (rw (c .before .before .before .before .before .before .n .given .1) at (c .before .before .before .before .before .before .before .before .before .prepare .ensures .0)) (c .before .before .before .before .before .before .before .before .before .prepare .ensures .1)) (front-is (c .before .before .before .before .before .before .before .before .before .before .before .before .args .line .now) _ refl (rw (c .before .before .before .before .before .before .n .given .1) at (c .before .before .before .before .before .before .before .before .before .prepare .ensures .0)) (c .before .before .before .before .before .before .before .before .before .prepare .ensures .1)) (c .before .before .check-text .ensures))
+returns c = rw (c .enum-told .given .1) at (form-by-form (c .before .before .before .before .before .before .before .before .before .before .before .args .line .now) (short (c .before .before .before .before .before .before .before .before .before .before .before .args .line .now) _ refl (rw (c .before .before .before .before .before .n .given .1) at (c .before .before .before .before .before .before .before .before .prepare .ensures .0)) (c .before .before .before .before .before .before .before .before .prepare .ensures .1)) (front-is (c .before .before .before .before .before .before .before .before .before .before .before .args .line .now) _ refl (rw (c .before .before .before .before .before .n .given .1) at (c .before .before .before .before .before .before .before .before .prepare .ensures .0)) (c .before .before .before .before .before .before .before .before .prepare .ensures .1)) (c .before .before .check-text .ensures))
 
 returns-2 : tie.Need-returns-2
-returns-2 c = rw (c .enum-told2 .given .1) at (form-by-form _ (c .before .before .before .before .before .before .before .before .before .before .before .before .args .line .now) (short (c .before .before .before .before .before .before .before .before .before .before .before .before .args .line .now) _ refl (rw (c .before .before .before .before .before .before .n .given .1) at (c .before .before .before .before .before .before .before .before .before .prepare .ensures .0)) (c .before .before .before .before .before .before .before .before .before .prepare .ensures .1)) (front-is (c .before .before .before .before .before .before .before .before .before .before .before .before .args .line .now) _ refl (rw (c .before .before .before .before .before .before .n .given .1) at (c .before .before .before .before .before .before .before .before .before .prepare .ensures .0)) (c .before .before .before .before .before .before .before .before .before .prepare .ensures .1)) (c .before .before .check-text .ensures))
+returns-2 c = rw (c .enum-told2 .given .1) at (form-by-form (c .before .before .before .before .before .before .before .before .before .before .before .args .line .now) (short (c .before .before .before .before .before .before .before .before .before .before .before .args .line .now) _ refl (rw (c .before .before .before .before .before .n .given .1) at (c .before .before .before .before .before .before .before .before .prepare .ensures .0)) (c .before .before .before .before .before .before .before .before .prepare .ensures .1)) (front-is (c .before .before .before .before .before .before .before .before .before .before .before .args .line .now) _ refl (rw (c .before .before .before .before .before .n .given .1) at (c .before .before .before .before .before .before .before .before .prepare .ensures .0)) (c .before .before .before .before .before .before .before .before .prepare .ensures .1)) (c .before .before .check-text .ensures))
 
 returns-3 : tie.Need-returns-3
 returns-3 c = long-form (c .before .before .before .before .before .before .args .line .now) (too-long (c .before .before .before .before .before .before .args .line .now) _ refl (rw (c .enum-told3 .given .1) at (c .before .before .before .prepare .ensures .0)))
@@ -35,7 +35,6 @@ form-spec =
     (λ c. search needs)
     array-share-prefix-text
     slice-aggregate-check-text
-    (λ c. search needs)
     (λ c κs. search needs)
     enum-told
     (λ c. search needs)

@@ -5,7 +5,7 @@ use types.Run.{OneOf, miss}
 use Rattle.reader.specs.Reading.{Spaces, spaces, left}
 use Rattle.reader.specs.Gather.{tidied}
 use Rattle.reader.specs.declared.line.Reading.{Reading}
-use Rattle.reader.specs.declared.line.Reading.the-variants.{Read as Whole, Stopped, Wrong, TooLong}
+use Rattle.reader.specs.declared.line.Reading.the-variants.{Read as Whole, Stopped, Deep, Wrong, TooLong}
 use Rattle.reader.proofs.line.Reading.{the-type}
 use Rattle.reader.proofs.Reading.{front-is, front-within, front-long, front-short, short, too-long, reads-by-form, long-by-form}
 use borrow.Author.Needs.{needs}
@@ -13,15 +13,17 @@ use Rattle.reader.proofs.line.read.Statement.{statement}
 use Rattle.reader.proofs.line.read.Tie as tie
 use Rattle.reader.proofs.line.read.Reads as reads
 use Rattle.reader.proofs.line.read.Lts as lts
+use Rattle.reader.proofs.line.clear.Reads as clear-reads
 use Rattle.reader.proofs.line.read_text.Reads as read-text-reads
 use Rattle.text.proofs.prepare.Reads as prepare-reads
 
--- the spaces of a line that is not of wrong form stay as they are
-not-wrong : (r : Reading) {sp : Spaces} → OneOf (0 ∷ 1 ∷ 3 ∷ []) (tagOf the-type r) → left r sp ≡ tidied r sp
-not-wrong (Whole w n) h = refl
-not-wrong (Stopped n) h = refl
-not-wrong (Wrong p) h = absurd (miss (0 ∷ 1 ∷ 3 ∷ []) 2 tt h)
-not-wrong TooLong h = refl
+-- the spaces of a line that is neither of wrong form nor of too deep a nesting stay as they are
+not-cleared : (r : Reading) {sp : Spaces} → OneOf (0 ∷ 1 ∷ 4 ∷ []) (tagOf the-type r) → left r sp ≡ tidied r sp
+not-cleared (Whole w n k) h = refl
+not-cleared (Stopped n) h = refl
+not-cleared Deep h = absurd (miss (0 ∷ 1 ∷ 4 ∷ []) 2 tt h)
+not-cleared (Wrong p) h = absurd (miss (0 ∷ 1 ∷ 4 ∷ []) 3 tt h)
+not-cleared TooLong h = refl
 
 enum-told : tie.Need-enum-told
 enum-told c = search needs
@@ -45,18 +47,25 @@ returns-2 : tie.Need-returns-2
 returns-2 c =
     let s = c .before .before .before .before .before .before .before .before .before .before .before .before .before .before .before .before .before .before .before .before in
     let p = c .before .before .before .before .before .before .before .before .before .before .before .before .before .before .before .before .before .prepare .ensures in
-    let w = c .before .before .before .before .before .enum-told2 .given .1 in
     let n = rw (c .before .before .before .before .before .before .before .before .before .before .before .before .before .before .n .given .1) at (p .0) in
     reads-by-form (s .args .table .now) (s .args .line .now) (spaces (s .args .letters .now) (s .args .values .now) (s .args .numbers .now) (s .args .amounts .now)) (short (s .args .line .now) _ refl n (p .1)) (front-is (s .args .line .now) _ refl n (p .1))
-    (ap₂ left w (c .clear .ensures) ∙ (rw w at (c .before .before .before .before .before .before .before .read-text .ensures)))
+    (ap₂ left (c .before .before .before .before .before .enum-told2 .given .1) (c .clear .ensures) ∙ (rw (c .before .before .before .before .before .enum-told2 .given .1) at (c .before .before .before .before .before .before .before .read-text .ensures)))
 
 returns-3 : tie.Need-returns-3
 returns-3 c =
+    let s = c .before .before .before .before .before .before .before .before .before .before .before .before .before .before .before .before .before .before .before .before in
+    let p = c .before .before .before .before .before .before .before .before .before .before .before .before .before .before .before .before .before .prepare .ensures in
+    let n = rw (c .before .before .before .before .before .before .before .before .before .before .before .before .before .before .n .given .1) at (p .0) in
+    reads-by-form (s .args .table .now) (s .args .line .now) (spaces (s .args .letters .now) (s .args .values .now) (s .args .numbers .now) (s .args .amounts .now)) (short (s .args .line .now) _ refl n (p .1)) (front-is (s .args .line .now) _ refl n (p .1))
+    (ap₂ left (c .before .before .before .before .before .enum-told3 .given .1) (c .clear2 .ensures) ∙ (rw (c .before .before .before .before .before .enum-told3 .given .1) at (c .before .before .before .before .before .before .before .read-text .ensures)))
+
+returns-4 : tie.Need-returns-4
+returns-4 c =
     let s = c .before .before .before .before .before .before .before .before .before .before .before .before .before .before in
     let p = c .before .before .before .before .before .before .before .before .before .before .before .prepare .ensures in
     let n = rw (c .before .before .before .before .before .before .before .before .n .given .1) at (p .0) in
     reads-by-form (s .args .table .now) (s .args .line .now) (spaces (s .args .letters .now) (s .args .values .now) (s .args .numbers .now) (s .args .amounts .now)) (short (s .args .line .now) _ refl n (p .1)) (front-is (s .args .line .now) _ refl n (p .1))
-    (not-wrong (c .before .read-text .result) (c .match2 .keys2) ∙ c .before .read-text .ensures)
+    (not-cleared (c .before .read-text .result) (c .match2 .keys3) ∙ c .before .read-text .ensures)
 
 pub read-spec : {M : Type 1} → statement M
 read-spec =
@@ -72,5 +81,8 @@ read-spec =
     read-text-requires
     (λ c. search needs)
     (λ c κs. search needs)
+    (λ c. search needs)
+    (λ c κs. search needs)
     returns-2
-    returns-3)
+    returns-3
+    returns-4)

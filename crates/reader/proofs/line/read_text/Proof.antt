@@ -1,9 +1,8 @@
-use Rattle.rules.specs.Meaning.{Entry}
-use Rattle.grammar.specs.Working.{Took}
+use Rattle.grammar.specs.Grammar.{Line}
 use Rattle.grammar.proofs.Place.{Placed}
 use Rattle.reader.specs.Reading.{spaces}
-use Rattle.reader.specs.Gather.{leftBy}
-use Rattle.reader.proofs.Beginning.{slash-on, label-within, line-items, line-wrong}
+use Rattle.reader.specs.Gather.{leftByLine}
+use Rattle.reader.proofs.Beginning.{slash-on, label-within, line-left, line-wrong}
 use mathlib.Core.Path.{ap, _∙_}
 use borrow.Author.Needs.{needs}
 use Rattle.reader.proofs.line.read_text.Statement.{statement}
@@ -21,10 +20,10 @@ gather-requires : tie.Need-gather-requires
 gather-requires c κs = (label-within (c .before .before .before .before .before .before .before .before .before .before .args .text .now) (c .before .before .before .before .before .before .before .before .slash-end .result) (rw (c .before .before .before .before .before .p .given .1) at (c .before .before .before .before .before .before .before .label-end .ensures)), c .before .before .before .before .before .before .before .before .before .before .pre)
 
 returns : tie.Need-returns
-returns c = c .gather .ensures ∙ ap (λ (m : Placed (Took Entry)). leftBy m (spaces (c .before .before .before .before .before .before .before .before .before .before .before .args .letters .now) (c .before .before .before .before .before .before .before .before .before .before .before .args .values .now) (c .before .before .before .before .before .before .before .before .before .before .before .args .numbers .now) (c .before .before .before .before .before .before .before .before .before .before .before .args .amounts .now))) (line-items (c .before .before .before .before .before .before .before .before .before .before .before .args .table .now) (c .before .before .before .before .before .before .before .before .before .before .before .args .text .now) (c .before .before .before .before .before .before .before .before .before .slash-end .ensures) (rw (c .before .before .before .before .before .before .p .given .1) at (c .before .before .before .before .before .before .before .before .label-end .ensures)))
+returns c = c .gather .ensures ∙ line-left (c .before .before .before .before .before .before .before .before .before .before .before .args .text .now) (c .before .before .before .before .before .before .before .before .before .slash-end .ensures) (c .before .before .before .before .before .before .before .before .before .before .before .args .table .now) (spaces (c .before .before .before .before .before .before .before .before .before .before .before .args .letters .now) (c .before .before .before .before .before .before .before .before .before .before .before .args .values .now) (c .before .before .before .before .before .before .before .before .before .before .before .args .numbers .now) (c .before .before .before .before .before .before .before .before .before .before .before .args .amounts .now)) (rw (c .before .before .before .before .before .before .p .given .1) at (c .before .before .before .before .before .before .before .before .label-end .ensures))
 
 returns-2 : tie.Need-returns-2
-returns-2 c = ap (λ (m : Placed (Took Entry)). leftBy m (spaces (c .before .before .before .before .before .before .args .letters .now) (c .before .before .before .before .before .before .args .values .now) (c .before .before .before .before .before .before .args .numbers .now) (c .before .before .before .before .before .before .args .amounts .now))) (line-wrong (c .before .before .before .before .before .before .args .table .now) (c .before .before .before .before .before .before .args .text .now) (c .before .before .before .before .slash-end .ensures) (rw (c .before .p2 .given .1) at (c .before .before .before .label-end .ensures)))
+returns-2 c = ap (λ (m : Placed Line). leftByLine (c .before .before .before .before .before .before .args .table .now) m (spaces (c .before .before .before .before .before .before .args .letters .now) (c .before .before .before .before .before .before .args .values .now) (c .before .before .before .before .before .before .args .numbers .now) (c .before .before .before .before .before .before .args .amounts .now))) (line-wrong (c .before .before .before .before .before .before .args .text .now) (c .before .before .before .before .slash-end .ensures) (rw (c .before .p2 .given .1) at (c .before .before .before .label-end .ensures)))
 
 pub read-text-spec : {M : Type 1} → statement M
 read-text-spec =
