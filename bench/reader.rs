@@ -44,6 +44,8 @@ const NO_MOTION: Refusal = 12;
 const OUT_OF_REACH: Refusal = 13;
 const WRONG_ARC: Refusal = 14;
 const TOO_DEEP: Refusal = 16;
+/// No refusal, but it stops a line as one does, and nothing of it is done.
+const SKIPPED: Refusal = 100;
 
 // ---------------------------------------------------------------- Tables
 
@@ -460,23 +462,46 @@ impl Reader<'_> {
         }
     }
 
-    /// Block delete mark and line number.
-    fn head(&mut self) -> Option<()> {
+    /// Mark, condition and line number: what a condition stops the line with, or 0.
+    fn head(&mut self) -> Option<Refusal> {
         let mut first = self.next();
-        if first == b'/' {
-            self.place += 1;
+        let mut refusal = 0;
+        if first == b'/' || first == b'\\' {
+            refusal = self.mark(first)?;
             first = self.next();
         }
         if first != b'N' {
-            return Some(());
+            return Some(refusal);
         }
         self.place += 1;
         let (_, count, _) = self.digits(0);
         if (1..=5).contains(&count) {
-            Some(())
+            Some(refusal)
         } else {
             None
         }
+    }
+
+    /// The switch of document 01's program is off: a plain `/` runs, and after a plain `\` nothing is read.
+    #[inline(never)]
+    fn mark(&mut self, mark: u8) -> Option<Refusal> {
+        self.place += 1;
+        if self.next() != b'[' {
+            if mark == b'/' {
+                return Some(0);
+            }
+            self.place = self.line.len();
+            return Some(SKIPPED);
+        }
+        self.place += 1;
+        self.depth += 1;
+        let value = self.expression()?;
+        self.depth -= 1;
+        if value.refusal != 0 {
+            return Some(value.refusal);
+        }
+        let zero = value.amount.abs() <= 1;
+        Some(if zero == (mark == b'/') { SKIPPED } else { 0 })
     }
 }
 
@@ -591,8 +616,7 @@ impl Seen {
 /// Reads the line to its end, since a wrong form anywhere goes before all else that is wrong with it.
 #[inline(always)]
 fn read_line(reader: &mut Reader, spaces: &mut Spaces) -> Option<Seen> {
-    let mut seen = Seen::default();
-    reader.head()?;
+    let mut seen = Seen { refusal: reader.head()?, ..Seen::default() };
     loop {
         let first = reader.next();
         if first == 0 {
@@ -746,7 +770,7 @@ impl<'a> Block<'a> {
             || (self.once == G53 && self.motion != 0 && self.motion != 10)
     }
 
-    /// Numbers 16 and 4 to 12.
+    /// A skip, and numbers 16 and 4 to 12.
     #[inline(always)]
     fn refusal(&self) -> Refusal {
         if self.seen.refusal != 0 {
@@ -1020,8 +1044,8 @@ impl Session {
         Session { record: Record::fresh(), table: Box::new([0; TABLE_LENGTH]), spaces }
     }
 
-    /// The frames of one line, and the values and operations worked out for it; or why it is refused: a refused line
-    /// changes nothing. The output space of document 01's program is larger than any line's commands, so number 15
+    /// The frames of one line, and the values and operations worked out for it; or why it is refused or skipped: such a
+    /// line changes nothing. The output space of document 01's program is larger than any line's commands, so number 15
     /// cannot come.
     fn line(&mut self, line: &[u8], frames: &mut Frames) -> Result<usize, Refusal> {
         if !self.record.in_order() {
@@ -1089,6 +1113,7 @@ fn work_lines(
         match session.line(line, frames) {
             // Frames do not tell it; it is counted all the same, as in what is measured beside this.
             Ok(work) => drop(black_box(work)),
+            Err(SKIPPED) => {}
             Err(refusal) => {
                 frames.put(0xFF, &[refusal as i64]);
                 return Ok(None);

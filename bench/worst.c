@@ -47,6 +47,8 @@ static const struct kind kinds[] = {
     {"sums within sums", "X", "[1+", "1", "]"},
     {"products within sums", "X", "[1+2*", "1", "]"},
     {"parameters in a sum", "X[1", "+#1", "]", ""},
+    {"a condition that says yes", "/[1", "+1", "]", ""},
+    {"a condition that says no, and words", "/[0]", "X1", "", ""},
     {"an arc and comments", "G2X1I0.5F100", "(a)", "", ""},
     {"a move and blanks", "N1G1X1Y1Z1F100S100T1M3M8", " ", "", ""},
     {"a move and settings", "N1G1X1Y1Z1F100S100T1M3M8", "#1=1", "", ""},

@@ -170,8 +170,8 @@ enum {
 
 /* ---- the call */
 
-/* Bytes of stack to keep free for a call. Measured, on a painted stack (tests/headers/stack.c): 6,216 for a
-   plain line, and 18,640 at most, for the deepest of 256 bytes, right or wrong (docs/STACK.md). */
+/* Bytes of stack to keep free for a call. Measured, on a painted stack (tests/headers/stack.c): 5,784 for a
+   plain line, and 18,208 at most, for the deepest of 256 bytes, right or wrong (docs/STACK.md). */
 enum {
     RS274_STACK = 24576
 };
@@ -188,7 +188,9 @@ extern "C" {
 #endif
 
 /*
- * Works one line, handed over without its end marker (line feed, or carriage return and line feed).
+ * Works one line, handed over without its end marker (line feed, or carriage return and line feed). Where
+ * block_delete is on, lines that begin with / are skipped; where it is off, those that begin with \. A condition, as
+ * in /[#5]G0X1, decides for itself (rs274_numbers.h).
  *
  * A refused or skipped line leaves rec, table and out as they were. An accepted one leaves in rec the state once
  * its commands are done: where a move is broken off, put the true position into rec before the next line. Where a

@@ -9,7 +9,7 @@
 
 /* Hundreds go up when something that a firmware relies on changes its meaning, ones when something is added.
    The headers and the libraries of one checkout belong together. */
-#define RS274_VERSION 200
+#define RS274_VERSION 300
 
 enum {
     RS274_LINE = 256,  /* the most bytes that a line may have, without its end marker */
@@ -17,8 +17,13 @@ enum {
 };
 
 /* The number that a line carries. Where several apply it is the lowest, but 16 comes after 3 and before 4, and of 5
-   to 7 it is the first that is met while the line's values are worked out. A skip is decided after 2: what else is
-   wrong with the line is not looked for. */
+   to 7 it is the first that is met while the line's values are worked out, those of its condition first.
+
+   A line that begins with / is skipped where block delete is on, one that begins with \ where it is off; that is
+   decided after 2, and what else is wrong with the line is not looked for. But /[..] and \[..] are conditions, and
+   block delete is nothing to them: such a line must be of right form (3, 16), then the condition is worked out (5 to
+   7), and the line is skipped where it says no, whatever else is wrong with it. /[..] says yes where its value is not
+   zero, \[..] where it is zero, which is at most 0.0001 from zero. */
 enum {
     RS274_ACCEPTED = 0,
     RS274_REFUSED_OUT_OF_ORDER = 1,
@@ -61,7 +66,7 @@ static inline const char *rs274_why(uint32_t number) {
     case RS274_REFUSED_ARC: return "an arc starts at its centre, or its end is not as far from the centre as its start";
     case RS274_REFUSED_ROOM: return "the output space is too short for the line's commands";
     case RS274_REFUSED_NESTING: return "more than 24 of [ and # stand one within another";
-    case RS274_SKIPPED: return "the line is skipped, since it begins with / and block delete is on";
+    case RS274_SKIPPED: return "the line is skipped, by its mark and the block delete switch or by its condition";
     default: return "no line carries this number";
     }
 }

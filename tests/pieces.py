@@ -185,7 +185,7 @@ def main():
     for size in (65_537, 200_000, 1_000_001):
         for name, data in (('chain', chain(size)), ('generated', second(['long', seed, str(size)]))):
             wanted = second(['frames'], data)
-            assert wanted.count(b'\n') > size // 100 and b'\nFF' not in wanted, 'a long program must not be refused'
+            assert wanted.count(b'\n') > size // 120 and b'\nFF' not in wanted, 'a long program must not be refused'
             name = f'{name} of {len(data)} bytes'
             report.hold(f'{name}, from a file', from_file(data), wanted)
             for piece in (4_096, 65_535, 65_536, 65_537):

@@ -55,6 +55,11 @@ void refusals() {
     hold("no room", work("M6", RS274_COMMAND - 1), RS274_REFUSED_ROOM);
     hold("room", work("M6", RS274_COMMAND), RS274_ACCEPTED);
     hold("skipped", work("/M6", 0, true), RS274_SKIPPED);
+    hold("skipped, switch off", work("\\M6", 0, false), RS274_SKIPPED);
+    hold("run, switch on", work("\\M5", RS274_COMMAND, true), RS274_ACCEPTED);
+    hold("skipped by its condition", work("/[0]M6 X[1/0]", 0, false), RS274_SKIPPED);
+    hold("run by its condition", work("/[1]M5", RS274_COMMAND, true), RS274_ACCEPTED);
+    hold("refused by its condition", work("\\[1/0]M6", 0, false), RS274_REFUSED_DIVISOR);
     while (strlen(line) < RS274_LINE) strcat(line, spaces);
     hold("256 bytes", work(line), RS274_ACCEPTED);
     strcat(line, " ");
@@ -147,6 +152,7 @@ int main() {
     settings();
     reports();
     form("G59.4", RS274_RIGHT);
+    form("\\[0] N5 G0", RS274_RIGHT);
     form("G", RS274_WRONG);
     hold("257 bytes", rs274_form(reinterpret_cast<const uint8_t *>(table), RS274_LINE + 1), RS274_TOO_LONG);
     printf("headers: %d names held in C++, %d wrong\n", tried, wrong);

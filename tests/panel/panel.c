@@ -119,21 +119,36 @@ static void item(size_t i, Places *ends) {
     }
 }
 
+/* no mark, a mark, or a mark and an expression */
+static void marks(Places *ends) {
+    static const char *spellings[] = {"/", "\\"};
+    ends->at[0] = 1;
+    for (size_t k = 0; k < sizeof spellings / sizeof *spellings; k++) {
+        size_t next = past(0, spellings[k]);
+        if (!next) continue;
+        ends->at[next] = 1;
+        expression(next, ends);
+    }
+}
+
+/* N and one to five digits */
+static void line_number(size_t i, Places *ends) {
+    size_t n = past(i, "N");
+    for (size_t digits = 1; n && digits <= 5; digits++) {
+        if (n + digits > text_length || !is_digit(text[n + digits - 1])) break;
+        ends->at[n + digits] = 1;
+    }
+}
+
 static uint32_t form(const uint8_t *line, size_t length) {
     if (length > RS274_LINE) return RS274_TOO_LONG;
     prepare(line, length);
     for (size_t i = 0; i <= text_length; i++) value_known[i] = 0;
-    Places reached = {{0}};
-    size_t past_slash = past(0, "/");
-    reached.at[0] = 1;
-    if (past_slash) reached.at[past_slash] = 1;
-    for (size_t start = 0; start <= past_slash; start++) {
-        size_t n = past(start, "N");
-        for (size_t digits = 1; n && digits <= 5; digits++) {
-            if (n + digits > text_length || !is_digit(text[n + digits - 1])) break;
-            reached.at[n + digits] = 1;
-        }
-    }
+    Places marked = {{0}}, reached;
+    marks(&marked);
+    reached = marked;
+    for (size_t i = 0; i <= text_length; i++)
+        if (marked.at[i]) line_number(i, &reached);
     for (size_t i = 0; i < text_length; i++)
         if (reached.at[i]) item(i, &reached);
     return reached.at[text_length] ? RS274_RIGHT : RS274_WRONG;
@@ -169,11 +184,13 @@ static const Line lines[] = {
     RIGHT("XABS[1]"), RIGHT("Xa b s[ 1 ]"), WRONG("XABS1"), WRONG("XABS#1"), WRONG("XSIN[1]"), WRONG("XAB[1]"), WRONG("XFIP[1]"), WRONG("XROUND"),
     RIGHT("X[1 mod 2 and 3 or 4 xor 5]"), RIGHT("X[[1]*[2]]"), RIGHT("X[ABS[1]+FIX[2]-FUP[3]*ROUND[4]/#5]"), WRONG("X[]"), WRONG("X[1"), WRONG("X1]"), WRONG("X[1]]"), WRONG("X[1 2 mo 3]"), WRONG("X[1**2]"), WRONG("X[1+]"), WRONG("X[+]"),
     RIGHT("F1 G1 I1 J1 K1 L1 M1 P1 S1 T1 X1 Y1 Z1"), WRONG("A1"), WRONG("B1"), WRONG("Q1"), WRONG("R1"), WRONG("E1"), WRONG("1"), WRONG("[1]"), WRONG("="),
+    RIGHT("\\"), RIGHT(" \t\\ N1"), RIGHT("\\M6"), RIGHT("/[1]"), RIGHT("\\[1]"), RIGHT(" / [ 1 ] n 5 g0"), RIGHT("/[#1-2*[3]]N12345G0X1(c)"), RIGHT("\\[ABS[1] OR 0](c)"),
+    WRONG("\\\\"), WRONG("/\\"), WRONG("\\/"), WRONG("/(c)[1]"), WRONG("(c)\\"), WRONG("(c)/[1]"), WRONG("N1\\"), WRONG("N1/[1]"), WRONG("/[1]/"), WRONG("/[1][2]"), WRONG("/[]"), WRONG("/[1"), WRONG("\\[1]]"), WRONG("/1"), WRONG("/#1"), WRONG("/ABS[1]"), WRONG("/-[1]"), WRONG("/[1(c)]"), WRONG("/[1]N123456"), WRONG("X1\\"), WRONG("X[1\\2]"),
     WRONG("X1\r"), WRONG("X1\n"), WRONG("X1\0"), WRONG("X1\xa0"), WRONG("X\v1"), WRONG("\xff"), WRONG("X1;"), WRONG("%"),
 };
 
 /* what a byte is changed into, or put before it */
-static const uint8_t damages[] = "0.+-#[]=()/NXAMODRBS\t a\x7f";
+static const uint8_t damages[] = "0.+-#[]=()/\\NXAMODRBS\t a\x7f";
 
 static size_t tried, differences;
 

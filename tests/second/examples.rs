@@ -127,6 +127,41 @@ const FORMS: &[(&[u8], u8)] = &[
     (b"R1", 3),
     (b"O1", 3),
     (b"%", 3),
+    // Marks and conditions.
+    (b"\\", 0),
+    (b" \t\\ N1", 0),
+    (b"\\M6", 0),
+    (b"/[1]", 0),
+    (b"\\[1]", 0),
+    (b" / [ 1 ] n 5 g0", 0),
+    (b"/[#1-2*[3]]N12345G0X1(c)", 0),
+    (b"/[1](c)", 0),
+    (b"/[[1] OR ABS[2]]", 0),
+    (b"/(c)[1]", 3),
+    (b"\\(c)[1]", 3),
+    (b"(c)\\", 3),
+    (b"(c)/[1]", 3),
+    (b"\\\\", 3),
+    (b"/\\", 3),
+    (b"\\/", 3),
+    (b"/[1]/", 3),
+    (b"/[1]\\[1]", 3),
+    (b"N1/[1]", 3),
+    (b"N1\\", 3),
+    (b"/[1][2]", 3),
+    (b"/[]", 3),
+    (b"/[1", 3),
+    (b"/[", 3),
+    (b"/[1]]", 3),
+    (b"/1", 3),
+    (b"/-[1]", 3),
+    (b"/#1", 3),
+    (b"/ABS[1]", 3),
+    (b"/[1]N123456", 3),
+    (b"/[1(c)]", 3),
+    (b"X1\\", 3),
+    (b"X[1\\2]", 3),
+    (b"[1]", 3),
     // Form is judged over the whole line before any value.
     (b"X1.23456 G", 3),
     (b"X[1/0]", 0),
@@ -543,10 +578,76 @@ const WORKS: &[(&str, &str, usize)] = &[
     ("#1=1", "#1=#1", 3),
     ("", "#1=2 #3=[4-5] G21", 8),
     ("", "g0x +0. 12 34y 7", 3),
+    // A condition is an expression and no value.
+    ("", "/[1+1]", 3),
+    ("", "/[1]", 1),
+    ("", "\\[0]M6", 2),
+    ("", "/[[1]]", 2),
     // Refused and skipped lines report none.
+    ("", "/[0]M6", 0),
+    ("", "\\M6", 0),
     ("", "S[1/0]", 0),
     ("", "X[1", 0),
     ("", "G59.4", 0),
+];
+
+/// Lines worked before, a line, the switch, its number.
+const MARKS: &[(&str, &str, bool, u8)] = &[
+    // Plain marks: `/` runs with the switch off, `\` with the switch on, and else they skip unread.
+    ("", "/M6", false, 0),
+    ("", "/M6", true, 100),
+    ("", "\\M6", true, 0),
+    ("", "\\M6", false, 100),
+    ("", "\\)(", false, 100),
+    ("", "\\)(", true, 3),
+    ("", "\\X[1/0]", true, 6),
+    ("", "/(c)[1]", true, 100),
+    ("", "/(c)[1]", false, 3),
+    ("", "\\(c)[1]", false, 100),
+    ("", "\\(c)[1]", true, 3),
+    ("", "/", true, 100),
+    ("", "\\", false, 100),
+    // A mark whose next non-blank byte is `[` ignores the switch.
+    ("", "/[1]M6", true, 0),
+    ("", "/[1]M6", false, 0),
+    ("", "/ \t[1]M6", true, 0),
+    ("", "\\[0]M6", true, 0),
+    ("", "\\[0]M6", false, 0),
+    ("", "/[0]M6", false, 100),
+    ("", "\\[1]M6", true, 100),
+    // "Zero means at most 0.0001 from zero."
+    ("", "/[0.0001]M6", false, 100),
+    ("", "/[-0.0001]M6", false, 100),
+    ("", "/[0.0002]M6", false, 0),
+    ("", "/[-0.0002]M6", false, 0),
+    ("", "\\[0.0001]M6", false, 0),
+    ("", "\\[-0.0001]M6", false, 0),
+    ("", "\\[0.0002]M6", false, 100),
+    ("", "/[0.01*0.01]M6", false, 100),
+    ("", "/[0.00014]M6", false, 100),
+    ("", "/[0.00015]M6", false, 0),
+    ("", "\\[-0.00014999]M6", false, 0),
+    ("", "\\[-0.00015]M6", false, 100),
+    // The right form first, then 16, then the condition's own numbers, and nothing else if it says no.
+    ("", "/[0]X", false, 3),
+    ("", "/[0]X", true, 3),
+    ("", "/[0", true, 3),
+    ("", "/[1/0]X", true, 3),
+    ("", "/[1/0]", true, 6),
+    ("", "/[1/0]X100000", false, 6),
+    ("", "/[99999+1]X[1/0]", false, 5),
+    ("", "\\[#5000]X[1/0]", false, 7),
+    ("", "\\[#0]X[1/0]", true, 7),
+    ("", "/[0]X[1/0]", false, 100),
+    ("", "/[0]#0=1", false, 100),
+    ("", "/[0]G99 G99 X1 X1", false, 100),
+    ("", "/[1]X[1/0]", false, 6),
+    ("", "/[1]G99", false, 8),
+    // From the table at entry.
+    ("", "/[#1]#1=1 M6", false, 100),
+    ("", "\\[#1]#1=1 M6", false, 0),
+    ("#1=1", "/[#1]#1=0 M6", false, 0),
+    ("#1=0.0001", "/[#1]M6", false, 100),
 ];
 
 /// Nests: an opening, how often its last piece is repeated, what stands within, what closes each piece, the rest of
@@ -567,6 +668,16 @@ const NESTS: &[(&str, usize, &str, &str, &str, u8)] = &[
     ("##", 25, "1", "", "=2", 16),
     ("#2=[", 24, "1", "]", "", 0),
     ("#2=[", 25, "1", "]", "", 16),
+    // A condition's own bracket counts, and its numbers and its skip come later.
+    ("/[", 24, "1", "]", "", 0),
+    ("/[", 25, "1", "]", "", 16),
+    ("/[", 25, "0", "]", "M6", 16),
+    ("/[", 25, "1/0", "]", "", 16),
+    ("/[0]S[", 25, "1", "]", "", 16),
+    ("/[1/0]S[", 25, "1", "]", "", 16),
+    ("\\[", 25, "1", "]", "X", 3),
+    ("/S[", 25, "1", "]", "", 16),
+    ("\\S[", 25, "1", "]", "", 100),
     // After 3, before 5 to 7, anywhere on the line.
     ("S[", 25, "1", "]", " X", 3),
     ("S[", 25, "1", "]", "]", 3),
@@ -609,6 +720,9 @@ const FRAMES: &[(&str, &str)] = &[
     ("\r\n", ""),
     ("M2\nM30\nM5", "0B0000000002\n0B000000001E\n050000000000\n"),
     ("/M6\n", "04\n"),
+    ("\\M6\nM9\n", "060000000000\n"),
+    ("/[0]M6\n\\[0]M9\n/[1]M5\n\\[1]M5\n", "060000000000\n050000000000\n"),
+    ("\\[1]X\nM9\n", "FF0000000003\n"),
     ("G4\nM6\n", "FF000000000A\n"),
     ("G20\nF99999.9999\nS1\n", "013B23946B02\n020000002710\n"),
     ("F100\nG3 X1 I0.5\n", "010000989680\n0A0000000003000000001100000186A000000000000000000000000000C3500000000000\n"),
@@ -786,8 +900,11 @@ fn with_item(order: &str, place: usize, item: &str) -> String {
 /// Every example that is a case, in one order.
 fn examples() -> Vec<Example> {
     let mut all = Vec::new();
-    let form =
-        |&(line, form): &(&[u8], u8)| Example { table: "form", case: usual(line), expected: Expected::Form(form) };
+    let form = |&(line, form): &(&[u8], u8)| {
+        // A plain `\` is read with the switch on.
+        let switch = line.trim_ascii_start().first() == Some(&b'\\');
+        Example { table: "form", case: Case { switch, ..usual(line) }, expected: Expected::Form(form) }
+    };
     all.extend(FORMS.iter().map(form));
     all.extend(VALUES.iter().map(value_example));
     for &(before, line, number) in NUMBERS {
@@ -804,6 +921,11 @@ fn examples() -> Vec<Example> {
     }
     for &(before, line, work) in WORKS {
         all.extend(session("work", before, line, Expected::Work(work)));
+    }
+    for &(before, line, switch, number) in MARKS {
+        let mut examples = session("mark", before, line, Expected::Number(number));
+        examples.iter_mut().for_each(|example| example.case.switch = switch);
+        all.extend(examples);
     }
     for &(opening, times, within, closing, rest, number) in NESTS {
         let line = nest_line((opening, times, within, closing, rest));

@@ -820,6 +820,44 @@ fn line_number(dice: &mut Dice) -> Vec<u8> {
     text
 }
 
+/// A mark, plain or with a condition, which may stand behind a comment; sometimes with something wrong later on the
+/// line, which a condition that says no must pass over, unless it is its form.
+fn mark(dice: &mut Dice, draft: &mut Draft, items: &mut Vec<Vec<u8>>) -> Vec<u8> {
+    let mut mark = vec![dice.pick(b"/\\")];
+    if dice.one_in(3) {
+        return mark;
+    }
+    if dice.one_in(16) {
+        mark.extend(b"(c)");
+    }
+    mark.extend(condition(dice, &mut draft.changes));
+    if dice.one_in(3) {
+        items.push(stopped_item(dice));
+    }
+    if dice.one_in(12) {
+        items.push(dice.pick(&[&b"G"[..], b"X", b")", b"(c", b"#1", b"X[1", b"N1", b"[1]", b"/", b"\\"]).to_vec());
+    }
+    mark
+}
+
+/// A condition: near zero mostly, of any make, one that refuses with 5 to 7, one that nests about as deep as the
+/// limit, or one of wrong form.
+fn condition(dice: &mut Dice, changes: &mut Vec<(usize, i64)>) -> Vec<u8> {
+    let (value, depth) = (dice.pick(&[0, 0, 1, -1, 1, -1, 2, -2, 3, 10_000, -10_000]), dice.below(4));
+    match dice.below(16) {
+        0 | 1 => any_expression(dice, depth),
+        2 | 3 => dice
+            .pick(&[&b"[1/0]"[..], b"[5 MOD [1-1]]", b"[100000]", b"[99999+1]", b"[#5000]", b"[##4999]", b"[0*[2/0]]"])
+            .to_vec(),
+        4 => joined(&[b"[", &nested(dice), b"]"]),
+        6 => dice
+            .pick(&[&b"[0.00014]"[..], b"[-0.000149]", b"[0.00015]", b"[-.00015]", b"[.00005]", b"[-0.00004]"])
+            .to_vec(),
+        5 => dice.pick(&[&b"["[..], b"[]", b"[1", b"[1]]", b"[1][2]", b"[=1]", b"[1=1]", b"[(c)1]"]).to_vec(),
+        _ => joined(&[b"[", &value_text(dice, changes, value, depth), b"]"]),
+    }
+}
+
 /// The draft's words and items as a line, sometimes in another order.
 fn write_line(dice: &mut Dice, draft: &mut Draft) -> Vec<u8> {
     let depth = dice.pick(&[0, 0, 1, 2, 3]);
@@ -838,8 +876,9 @@ fn write_line(dice: &mut Dice, draft: &mut Draft) -> Vec<u8> {
     if dice.one_in(5) {
         items.insert(0, line_number(dice));
     }
-    if dice.one_in(8) {
-        items.insert(0, b"/".to_vec());
+    if dice.one_in(5) {
+        let mark = mark(dice, draft, &mut items);
+        items.insert(0, mark);
     }
     let gap = dice.pick(&[&b""[..], b" ", b" ", b"\t "]);
     styled(dice, &items.join(gap))
@@ -864,7 +903,7 @@ fn any_byte(dice: &mut Dice) -> u8 {
         0 => dice.below(256) as u8,
         1 => 128 + dice.below(128) as u8,
         2 => dice.below(32) as u8,
-        _ => dice.pick(b"GMXYZIJKFSTPLN0123456789.+-*/#=[]()ABSFIXUPRONDMOD \tx/%"),
+        _ => dice.pick(b"GMXYZIJKFSTPLN0123456789.+-*/#=[]()ABSFIXUPRONDMOD \tx/\\%"),
     }
 }
 
@@ -924,8 +963,11 @@ fn pieces(dice: &mut Dice) -> Vec<u8> {
         b"(c)",
         b"N1",
         b"/",
+        b"\\",
     ];
-    (0..1 + dice.below(9)).flat_map(|_| dice.pick(&few).to_vec()).collect()
+    let mark = dice.pick(&[&b""[..], b"", b"/", b"\\", b"/[", b"\\[1]"]).to_vec();
+    let rest = (0..1 + dice.below(9)).flat_map(|_| dice.pick(&few).to_vec());
+    mark.into_iter().chain(rest).collect()
 }
 
 /// A line from a draft, damaged or stretched at times.
@@ -974,7 +1016,8 @@ pub fn case(dice: &mut Dice) -> Case {
         changes.retain(|change| change.0 != 3);
         changes.push((3, dice.pick(&edges)));
     }
-    let switch = dice.one_in(4);
+    let marked = line.iter().find(|byte| !b" \t".contains(byte)).is_some_and(|byte| b"/\\".contains(byte));
+    let switch = dice.one_in(if marked { 2 } else { 4 });
     let full = 8 * commands(&line, switch, &draft.record, &changes);
     let room = match dice.below(12) {
         0..=2 => full,
@@ -1010,14 +1053,15 @@ struct Session {
 }
 
 impl Session {
-    /// Adds a line if it is accepted, or anyway.
+    /// Adds a line if it is not refused, or anyway.
     fn add(&mut self, dice: &mut Dice, line: &[u8], anyway: bool) -> bool {
         let number = rules::interpret(line, false, &mut self.record, &mut self.table, &mut [0; 128]).number;
-        if number == 0 || anyway {
+        let refused = number != rules::ACCEPTED && number != rules::SKIPPED;
+        if !refused || anyway {
             self.bytes.extend(line);
             self.bytes.extend(dice.pick(&[&b"\n"[..], b"\n", b"\n", b"\n", b"\r\n"]));
         }
-        number == 0
+        !refused
     }
 
     /// The settings a draft asks of the table, on a line of their own.
@@ -1047,7 +1091,7 @@ impl Session {
     }
 }
 
-/// A program of at least so many bytes of which every line is accepted.
+/// A program of at least so many bytes of which no line is refused.
 pub fn long_program(dice: &mut Dice, bytes: usize) -> Vec<u8> {
     let mut session = Session::begun();
     while session.bytes.len() < bytes {
@@ -1056,7 +1100,7 @@ pub fn long_program(dice: &mut Dice, bytes: usize) -> Vec<u8> {
     session.bytes
 }
 
-/// A whole program for standard input: mostly accepted lines, often a refused one towards the end.
+/// A whole program for standard input: mostly lines that are not refused, often a refused one towards the end.
 pub fn program(dice: &mut Dice) -> Vec<u8> {
     let mut session = Session::begun();
     let tries = dice.between(20, 300);

@@ -200,6 +200,9 @@ const OPERATORS: [(&[u8], Operator); 8] = [
 const FUNCTIONS: [(&[u8], Function); 4] =
     [(b"ABS[", Function::Abs), (b"FIX[", Function::Fix), (b"FUP[", Function::Fup), (b"ROUND[", Function::Round)];
 
+/// Ticket 6: "`/[expression]` .. and `\[expression]` .., and a plain `\`".
+const MARKS: [(&[u8], Mark); 2] = [(b"/", Mark::Slash), (b"\\", Mark::Backslash)];
+
 /// One place of a derivation. Parts are named by where they stand in the derivation's list, and
 /// always stand earlier in it: the list is the tree in working order.
 enum Node {
@@ -213,10 +216,18 @@ enum Node {
     Worked(Operator, usize, usize),
 }
 
-/// A line's derivation: the nodes in working order, then words and settings in the order written,
-/// each naming the nodes of its values; how much work it is, and how deep it nests.
+/// Ticket 6: "`/[expression]` (run if not zero) and `\[expression]` (run if zero)".
+#[derive(Clone, Copy, PartialEq, Eq)]
+enum Mark {
+    Slash,
+    Backslash,
+}
+
+/// A line's derivation: the nodes in working order, those of its condition first, then words and settings in the
+/// order written, each naming the nodes of its values; how much work it is, and how deep it nests.
 struct Derivation {
     nodes: Vec<Node>,
+    condition: Option<(Mark, usize)>,
     words: Vec<(u8, usize)>,
     settings: Vec<(usize, usize)>,
     /// Ticket 12: "one for each value and each operator in its derivation".
@@ -240,21 +251,36 @@ struct Reader {
 
 /// "What remains must be derived": the derivation of a line, or none.
 fn derive(line: &[u8]) -> Option<Derivation> {
-    let found = Derivation { nodes: Vec::new(), words: Vec::new(), settings: Vec::new(), work: 0, nesting: 0 };
+    let (nodes, words, settings) = (Vec::new(), Vec::new(), Vec::new());
+    let found = Derivation { nodes, condition: None, words, settings, work: 0, nesting: 0 };
     let mut reader = Reader { remains: what_remains(line)?, place: 0, found };
     reader.line()?;
     Some(reader.found)
 }
 
 impl Reader {
-    /// "line: optional `/`, optional N with one to five digits, then any number of items."
+    /// "line: optional `/`, optional N with one to five digits, then any number of items." Ticket 6: "Demand 3's
+    /// grammar gains these": `\` for `/`, and an expression right after either.
     fn line(&mut self) -> Option<()> {
-        self.take(b"/");
+        if let Some(mark) = self.choice(&MARKS) {
+            self.condition(mark)?;
+        }
         if self.take(b"N") && !(1..=5).contains(&self.digits().len()) {
             return None;
         }
         while self.place < self.remains.len() {
             self.item()?;
+        }
+        Some(())
+    }
+
+    /// Ticket 6: an expression after a mark. It is one of the grammar's expressions and not one of its values, so
+    /// ticket 12 counts what stands in it and not the expression itself.
+    fn condition(&mut self, mark: Mark) -> Option<()> {
+        if self.next() == Some(b'[') {
+            let value = self.value()?;
+            self.found.condition = Some((mark, value));
+            self.found.work -= 1;
         }
         Some(())
     }
@@ -425,7 +451,8 @@ fn rank(operator: Operator) -> u8 {
 /// ten-thousandth, halves away from zero, from all its digits at once" (request 4 of document 02).
 fn ten_thousandths(whole: &[u8], decimals: &[u8]) -> i64 {
     let four = decimals.iter().chain(repeat(&b'0')).take(4);
-    let cut = whole.iter().chain(four).fold(0, |size, digit| (size * 10 + i64::from(digit - b'0')).min(VALUE_LIMIT + 1));
+    let cut =
+        whole.iter().chain(four).fold(0, |size, digit| (size * 10 + i64::from(digit - b'0')).min(VALUE_LIMIT + 1));
     // What is left is half a ten-thousandth or more if it comes after 5 in the order of texts, or is 5.
     let half = decimals.get(4..).is_some_and(|left| left >= &b"5"[..]);
     (cut + i64::from(half)).min(VALUE_LIMIT + 1)
@@ -444,8 +471,8 @@ pub fn form(line: &[u8]) -> u8 {
 
 // ---------------------------------------------------------------- Arithmetic
 
-/// What reading a line gives: no derivation, number 16 or the first of numbers 5 to 7, or "the tree's words and
-/// settings in order, with their values", and the work it was.
+/// What reading a line gives: no derivation, number 16, the first of numbers 5 to 7 or a skip by the condition, or
+/// "the tree's words and settings in order, with their values", and the work it was.
 pub enum Reading {
     WrongForm,
     Stopped(u8),
@@ -453,7 +480,7 @@ pub enum Reading {
 }
 
 /// Reads a line of any length. Ticket 12: "16 for deeper nesting anywhere on the line, checked after 3 and before
-/// 4".
+/// 4, and before a condition is worked out".
 pub fn read(line: &[u8], table: &[i64]) -> Reading {
     let Some(derivation) = derive(line) else {
         return Reading::WrongForm;
@@ -461,7 +488,7 @@ pub fn read(line: &[u8], table: &[i64]) -> Reading {
     if derivation.nesting > DEEPEST_NESTING {
         return Reading::Stopped(16);
     }
-    match work_out(&derivation.nodes, table) {
+    match work_out(&derivation, table) {
         Err(number) => Reading::Stopped(number),
         Ok(values) => Reading::Read {
             words: derivation.words.iter().map(|&(letter, node)| (letter, values[node])).collect(),
@@ -475,11 +502,34 @@ pub fn read(line: &[u8], table: &[i64]) -> Reading {
     }
 }
 
+/// Ticket 6: "The condition is worked out first, from the table at entry; if it says no, the line is skipped."
+/// "3 to 7 may now come from a condition, before anything else on the line."
+fn work_out(derivation: &Derivation, table: &[i64]) -> Result<Vec<i64>, u8> {
+    let mut values = Vec::new();
+    if let Some((mark, node)) = derivation.condition {
+        work_out_nodes(&derivation.nodes[..=node], table, &mut values)?;
+        if !says_yes(mark, values[node]) {
+            return Err(SKIPPED);
+        }
+    }
+    work_out_nodes(&derivation.nodes[values.len()..], table, &mut values)?;
+    Ok(values)
+}
+
+/// Ticket 6: "`/[expression]` (run if not zero) and `\[expression]` (run if zero)"; "Zero means at most 0.0001 from
+/// zero."
+fn says_yes(mark: Mark, value: i64) -> bool {
+    let zero = value.abs() <= 1;
+    match mark {
+        Mark::Slash => !zero,
+        Mark::Backslash => zero,
+    }
+}
+
 /// "All values on a line are worked out left to right from the table as it was at entry"; "Among 4
 /// to 7 the first met in working order decides", of which 4 never comes. A judged node's value is the
 /// parameter number.
-fn work_out(nodes: &[Node], table: &[i64]) -> Result<Vec<i64>, u8> {
-    let mut values = Vec::with_capacity(nodes.len());
+fn work_out_nodes(nodes: &[Node], table: &[i64], values: &mut Vec<i64>) -> Result<(), u8> {
     for node in nodes {
         let value = match *node {
             Node::Written(value) => in_range(value)?,
@@ -490,7 +540,7 @@ fn work_out(nodes: &[Node], table: &[i64]) -> Result<Vec<i64>, u8> {
         };
         values.push(value);
     }
-    Ok(values)
+    Ok(())
 }
 
 /// Number 5: "a value written, worked out or read from the table is out of range".
@@ -986,7 +1036,7 @@ fn judge(line: &[u8], switch: bool, record: &Record, table: &[i64], room: usize)
     if line.len() > LONGEST_LINE {
         return Err(2);
     }
-    if switch && first_non_blank(line) == Some(b'/') {
+    if skips_unread(line, switch) {
         return Err(SKIPPED);
     }
     let (words, settings, work) = match read(line, table) {
@@ -1022,9 +1072,17 @@ fn carry_out(content: &Content, record: &Record) -> Result<Effect, u8> {
     Ok(effect)
 }
 
-/// "a line whose first non-blank byte is `/`".
-fn first_non_blank(line: &[u8]) -> Option<u8> {
-    line.iter().copied().find(|&byte| byte != b' ' && byte != b'\t')
+/// "After 2, a line whose first non-blank byte is `/`, with the switch on, is skipped and no later check is made."
+/// Ticket 6: "a plain `\` .. runs only with the switch on"; "A mark whose next non-blank byte is `[` ignores the
+/// switch ..; others skip unread, as today."
+fn skips_unread(line: &[u8], switch: bool) -> bool {
+    let mut bytes = line.iter().copied().filter(|&byte| byte != b' ' && byte != b'\t');
+    let marked = match bytes.next() {
+        Some(b'/') => switch,
+        Some(b'\\') => !switch,
+        _ => false,
+    };
+    marked && bytes.next() != Some(b'[')
 }
 
 /// What a line is answered with: its number, how many commands it wrote, and the values and operations worked out.

@@ -19,6 +19,7 @@ RANGE = ('number 5: a value written, worked out or read from a parameter is beyo
 FORM = ('number 3: the line is of wrong form; look for a letter that begins no word, a bracket or comment left open,'
         ' a sign before a bracket or a parameter, or a line end handed over with the line')
 LENGTH = 'number 2: the line has more than 256 bytes; write it as two lines'
+DIVISOR = 'number 6: a divisor of / or MOD is zero; see that what stands after / or MOD cannot come to zero'
 CODE = 'number 8: a G or M code is not served; use a code that this control serves'
 CHANGE = 'change tool, spindle off\n'
 Z = 'feed 10000000\nfeed to X0 Y0 Z-300000\nfeed to X5000000 Y0 Z-300000\n'
@@ -38,6 +39,12 @@ CASES = [
     (b'M2\nM30\nM6\n', 'stop M2, spindle and coolant off\nstop M30, spindle and coolant off\n' + CHANGE, None, None),
     # a skip needs the operator's switch
     (b'/M6\n', CHANGE, None, None),
+    (b'\\M6\nM9\n', 'coolant off\n', None, None),
+    # a condition skips or runs a line without it, or refuses it
+    (b'/[0]M6\n\\[0.0001]M9\n/[#1]G59.4\n', 'coolant off\n', None, None),
+    (b'#1=1\n/[#1]M6\n/[1]G59.4\n', CHANGE, 3, CODE),
+    (b'M6\n/[0]X\n', CHANGE, 2, FORM),
+    (b'M6\n\\[1/0]\n', CHANGE, 2, DIVISOR),
     # one carriage return, and only before a line feed
     (b'M6\r\n', CHANGE, None, None),
     (b'M6\r\r\n', '', 1, FORM),

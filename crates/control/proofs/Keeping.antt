@@ -1,8 +1,9 @@
 -- Whoever works a line from what the reader leaves keeps the promise.
 -- Assumes nothing.
 use mathlib.Core.Path.{_≡_, refl, ap, ap₂, _∙_, sym}
-use mathlib.Core.Bool.{Bool, true, false, cond, not, _&&_, _||_, or-true}
+use mathlib.Core.Bool.{Bool, true, false, cond, not, _||_, or-true}
 use mathlib.Core.List.{List, [], _∷_, _++_, map}
+use mathlib.Core.Logic.{_⊎_, inl, inr, ⊎-elim}
 use mathlib.Core.Option.{Option, none, some}
 use Prim.Native.Nat.{ℕ, zero, suc, _+_, _≤_, _<_}
 use native.Mathlib.Omega.{arith}
@@ -12,7 +13,7 @@ use lib.Seq.{sets, sets-eq, take-append-seam}
 use lib.IntN.{ℤ}
 use borrow.Author.Tests.{le-ltb, lt-ltb, eq-eqb, ne-eqb}
 use Rattle.laws.proofs.Bools.{T-eq, not-eq}
-use Rattle.grammar.specs.Grammar.{Line, line as lineOf, letter}
+use Rattle.grammar.specs.Grammar.{Line}
 use Rattle.grammar.specs.Derivation.{Derives}
 use Rattle.grammar.specs.Working.{Took, end, stopped, took, Contents, contents}
 use Rattle.grammar.proofs.Lengths.{few}
@@ -22,7 +23,7 @@ use Rattle.rules.specs.Block.{blockOf}
 use Rattle.rules.specs.Reach.{inOrder}
 use Rattle.rules.specs.Steps.{ready}
 use Rattle.rules.specs.Refusals.{Case, _when_, first, refusals}
-use Rattle.rules.specs.Promise.{After, Right, after, answer, answerTo, leaving, worth, byNumber, disorder, slashed, tooDeep}
+use Rattle.rules.specs.Promise.{After, Right, after, answer, answerTo, leaving, worth, byNumber, disorder, unread, tooDeep}
 use Rattle.rules.proofs.Demands.{lacking}
 use Rattle.rules.specs.declared.Block.{Block}
 use Rattle.rules.specs.declared.Record.{Record}
@@ -34,10 +35,10 @@ use Rattle.reader.specs.declared.line.Reading.{Reading}
 use Rattle.reader.specs.declared.line.Reading.the-variants.{Read, Stopped, Deep, Wrong, TooLong}
 use Rattle.summary.specs.Words.{said, lettered}
 use Rattle.block.specs.Execution.{allInRange, Done, done, doneBy, executed, execution}
-use Rattle.control.specs.Worked.{judgedAs, unchanged, settingsOf, tableAfter, workDone, finished, workedBy, worked, unread, lentAfter, Lends}
-use Rattle.rules.proofs.Sound.{SoundTook, entries-sound}
+use Rattle.control.specs.Worked.{judgedAs, stoppedAs, unchanged, settingsOf, tableAfter, workDone, finished, workedBy, worked, notRead, lentAfter, Lends}
+use Rattle.rules.proofs.Sound.{SoundTook, line-sound}
 use Rattle.reader.proofs.Demand3.{line-counts}
-use Rattle.control.proofs.Words.{entries-lettered}
+use Rattle.control.proofs.Words.{line-lettered}
 
 -- ---- what was stored is read back
 module _ {A : Type 0} where
@@ -86,6 +87,16 @@ stop-sound (stopped n) s k h = let e : n ≡ k = cc in rw e at s
 stop-sound (took (wordIs b v) t) s k h = stop-sound t (s .1) k h
 stop-sound (took (settingIs n v) t) s k h = stop-sound t s k h
 
+-- by a condition that says no, or by one of the numbers 5 to 7
+stop-by : (e : Took Entry) → (e ≡ stopped 100) ⊎ SoundTook e → (k : ℕ) → stopOf e ≡ some k → (k ≡ 100) ⊎ ((5 ≤ k) × (k ≤ 7))
+stop-by e (inl n) k h = inl (let z : stopOf (stopped 100) ≡ some k = rw n at h in let y : k ≡ 100 = cc in y)
+stop-by e (inr s) k h = inr (stop-sound e s k h)
+
+-- a reading that came to the line's end was stopped by neither
+not-stopped : (e : Took Entry) → (e ≡ stopped 100) ⊎ SoundTook e → stopOf e ≡ none → SoundTook e
+not-stopped e (inl n) h = absurd (let z : stopOf (stopped 100) ≡ none = rw n at h in let y : _≡_ {A = ℕ} 0 1 = cc in omega arith)
+not-stopped e (inr s) h = s
+
 -- ---- the numbers 8 to 15
 finished-by : (n : ℕ) (e : Contents Entry) (b : Block) (r : Record) (table out : List ℤ) → (n ≡ 100 → ⊥) → finished (e .work) (doneBy n b r out) (settings (e .entries)) table ≡ byNumber n e b r table out
 finished-by n e b r table out h = rw (ne-eqb n 100 h) (go (eqb n 0))
@@ -94,18 +105,23 @@ finished-by n e b r table out h = rw (ne-eqb n 100 h) (go (eqb n 0))
     go true = refl
     go false = refl
 
--- the numbers 5 to 7
-stopped-by : (k : ℕ) → 5 ≤ k → k ≤ 7 → (cs : List Case) (e : Contents Entry) (b : Block) (r : Record) (table out : List ℤ) →
-    byNumber (first ((4 when eqb k 4) ∷ (5 when eqb k 5) ∷ (6 when eqb k 6) ∷ (7 when eqb k 7) ∷ cs)) e b r table out ≡ leaving (Refused k) r table out
-stopped-by zero l h cs e b r table out = absurd (omega arith)
-stopped-by (suc zero) l h cs e b r table out = absurd (omega arith)
-stopped-by (suc (suc zero)) l h cs e b r table out = absurd (omega arith)
-stopped-by (suc (suc (suc zero))) l h cs e b r table out = absurd (omega arith)
-stopped-by (suc (suc (suc (suc zero)))) l h cs e b r table out = absurd (omega arith)
-stopped-by (suc (suc (suc (suc (suc zero))))) l h cs e b r table out = refl
-stopped-by (suc (suc (suc (suc (suc (suc zero)))))) l h cs e b r table out = refl
-stopped-by (suc (suc (suc (suc (suc (suc (suc zero))))))) l h cs e b r table out = refl
-stopped-by (suc (suc (suc (suc (suc (suc (suc (suc k)))))))) l h cs e b r table out = absurd (omega arith)
+-- the numbers 5 to 7, and a condition's 100
+refused-by : (k : ℕ) → 5 ≤ k → k ≤ 7 → (cs : List Case) (e : Contents Entry) (b : Block) (r : Record) (table out : List ℤ) →
+    byNumber (first ((100 when eqb k 100) ∷ (4 when eqb k 4) ∷ (5 when eqb k 5) ∷ (6 when eqb k 6) ∷ (7 when eqb k 7) ∷ cs)) e b r table out ≡ leaving (stoppedAs k) r table out
+refused-by zero l h cs e b r table out = absurd (omega arith)
+refused-by (suc zero) l h cs e b r table out = absurd (omega arith)
+refused-by (suc (suc zero)) l h cs e b r table out = absurd (omega arith)
+refused-by (suc (suc (suc zero))) l h cs e b r table out = absurd (omega arith)
+refused-by (suc (suc (suc (suc zero)))) l h cs e b r table out = absurd (omega arith)
+refused-by (suc (suc (suc (suc (suc zero))))) l h cs e b r table out = refl
+refused-by (suc (suc (suc (suc (suc (suc zero)))))) l h cs e b r table out = refl
+refused-by (suc (suc (suc (suc (suc (suc (suc zero))))))) l h cs e b r table out = refl
+refused-by (suc (suc (suc (suc (suc (suc (suc (suc k)))))))) l h cs e b r table out = absurd (omega arith)
+
+stopped-by : (k : ℕ) → (k ≡ 100) ⊎ ((5 ≤ k) × (k ≤ 7)) → (cs : List Case) (e : Contents Entry) (b : Block) (r : Record) (table out : List ℤ) →
+    byNumber (first ((100 when eqb k 100) ∷ (4 when eqb k 4) ∷ (5 when eqb k 5) ∷ (6 when eqb k 6) ∷ (7 when eqb k 7) ∷ cs)) e b r table out ≡ leaving (stoppedAs k) r table out
+stopped-by k (inl n) cs e b r table out = rw n
+stopped-by k (inr n) cs e b r table out = refused-by k (n .0) (n .1) cs e b r table out
 
 -- what a test has shown of what it is the test of
 pub by-test : {x y b : Bool} → x ≡ y → x ≡ b → y ≡ b
@@ -145,7 +161,7 @@ module _ (line : List ℕ) (switch : Bool) (r : Record) (table out : List ℤ) w
   unfolding answerTo
   kept-2 z l h = kept-early (Refused 2) (λ q. by-early (λ e. rw (no-disorder z q, lt-ltb 256 (length line) l))) h
 
-  pub kept-skipped : {o : Report} → length table ≡ 5000 → length line ≤ 256 → (switch && slashed line) ≡ true → o ≡ unchanged (judgedAs Skipped r) r → Right line switch r table out (after o table out)
+  pub kept-skipped : {o : Report} → length table ≡ 5000 → length line ≤ 256 → unread switch line ≡ true → o ≡ unchanged (judgedAs Skipped r) r → Right line switch r table out (after o table out)
   unfolding answerTo
   kept-skipped z l s h = kept-early Skipped (λ q. by-early (λ e. rw (no-disorder z q, le-ltb 256 (length line) l, s))) h
 
@@ -158,7 +174,7 @@ module _ (line : List ℕ) (switch : Bool) (r : Record) (table out : List ℤ) w
   out-of-order q (Wrong p) lent = rw q
   out-of-order q TooLong lent = rw q
 
-module _ (line : List ℕ) (switch : Bool) (r : Record) (table out : List ℤ) (sized : length table ≡ 5000) (in-order : inOrder r ≡ true) (short : length line ≤ 256) (unskipped : (switch && slashed line) ≡ false) where
+module _ (line : List ℕ) (switch : Bool) (r : Record) (table out : List ℤ) (sized : length table ≡ 5000) (in-order : inOrder r ≡ true) (short : length line ≤ 256) (unskipped : unread switch line ≡ false) where
   ordered : disorder r table ≡ false
   ordered = no-disorder line switch r table out sized in-order
 
@@ -168,13 +184,14 @@ module _ (line : List ℕ) (switch : Bool) (r : Record) (table out : List ℤ) (
   underived-answer = rw (ordered, le-ltb 256 (length line) short, unskipped)
 
   -- a reading that was stopped
-  stopped-answer : (c : Contents Entry) → tooDeep c ≡ false → SoundTook (c .entries) → (k : ℕ) → stopOf (c .entries) ≡ some k → answerTo (some c) line switch r table out ≡ leaving (Refused k) r table out
+  stopped-answer : (c : Contents Entry) → tooDeep c ≡ false → (c .entries ≡ stopped 100) ⊎ SoundTook (c .entries) → (k : ℕ) → stopOf (c .entries) ≡ some k →
+      answerTo (some c) line switch r table out ≡ leaving (stoppedAs k) r table out
   unfolding answerTo
   stopped-answer c d s k h =
       let ws = words (c .entries) in
       let b = blockOf ws in
-      let n = stop-sound (c .entries) s k h in
-      rw (ordered, le-ltb 256 (length line) short, unskipped, d, stop-is (c .entries) k h) (stopped-by k (n .0) (n .1) (refusals ws b (ready b r) (length out)) c b r table out)
+      let n = stop-by (c .entries) s k h in
+      rw (ordered, le-ltb 256 (length line) short, unskipped, d, stop-is (c .entries) k h) (stopped-by k n (refusals ws b (ready b r) (length out)) c b r table out)
 
   -- a reading that nests too deep
   deep-answer : (c : Contents Entry) → tooDeep c ≡ true → answerTo (some c) line switch r table out ≡ leaving (Refused 16) r table out
@@ -207,18 +224,15 @@ module _ (line : List ℕ) (switch : Bool) (r : Record) (table out : List ℤ) (
 
     tree-answer : (t : Line) → Derives t line → worked (leaves table old t) r table out ≡ answer (some t) line switch r table out
     unfolding worked
-    tree-answer (lineOf sl n is) d =
-        let c = contents (arithmetic table) (lineOf sl n is) in
-        let l : lettered (words (c .entries)) ≡ words (c .entries) = entries-lettered table is (d .ok .1) in
-        let s : SoundTook (c .entries) = entries-sound table is in
-        let m = line-counts table (lineOf sl n is) in
+    tree-answer t d =
+        let m = line-counts table t in
         let k = few d short in
-        go c l s (omega (arith, m .0, k .0)) (omega (arith, m .1, k .1)) (tooDeep c) refl (stopOf (c .entries)) refl
+        go (contents (arithmetic table) t) (line-lettered table t (d .ok)) (line-sound table t) (omega (arith, m .0, k .0)) (omega (arith, m .1, k .1)) (tooDeep (contents (arithmetic table) t)) refl (stopOf (contents (arithmetic table) t .entries)) refl
       where
-        go : (c : Contents Entry) → lettered (words (c .entries)) ≡ words (c .entries) → SoundTook (c .entries) → length (words (c .entries)) ≤ 128 → length (settings (c .entries)) ≤ 64
+        go : (c : Contents Entry) → lettered (words (c .entries)) ≡ words (c .entries) → (c .entries ≡ stopped 100) ⊎ SoundTook (c .entries) → length (words (c .entries)) ≤ 128 → length (settings (c .entries)) ≤ 64
             → (b : Bool) → tooDeep c ≡ b → (o : Option ℕ) → stopOf (c .entries) ≡ o → worked (leftFor c old) r table out ≡ answerTo (some c) line switch r table out
         go c l s w n true q o h = rw (q, in-order) (sym (deep-answer c q))
-        go c l s w n false q none h = rw q (stored-answer (c .entries) (c .work) w n h ∙ sym (whole-answer c q l s h))
+        go c l s w n false q none h = rw q (stored-answer (c .entries) (c .work) w n h ∙ sym (whole-answer c q l (not-stopped (c .entries) s h) h))
         go c l s w n false q (some k) h = rw (q, h, in-order) (sym (stopped-answer c q s k h))
 
     -- the promise, from what the reader left, for a record in order
@@ -229,7 +243,7 @@ module _ (line : List ℕ) (switch : Bool) (r : Record) (table out : List ℤ) (
       byNone = λ h. ap (λ (l : Left). worked l r table out) (p .byNone short h .is) ∙ rw in-order (sym underived-answer);
     }
 
-module _ (line : List ℕ) (switch : Bool) (r : Record) (table out : List ℤ) (sized : length table ≡ 5000) (short : length line ≤ 256) (unskipped : (switch && slashed line) ≡ false) (old : Spaces) (roomWords : length (old .letters) ≡ 128) (roomValues : length (old .values) ≡ 128) (roomNumbers : length (old .numbers) ≡ 64) (roomAmounts : length (old .amounts) ≡ 64) where
+module _ (line : List ℕ) (switch : Bool) (r : Record) (table out : List ℤ) (sized : length table ≡ 5000) (short : length line ≤ 256) (unskipped : unread switch line ≡ false) (old : Spaces) (roomWords : length (old .letters) ≡ 128) (roomValues : length (old .values) ≡ 128) (roomNumbers : length (old .numbers) ≡ 64) (roomAmounts : length (old .amounts) ≡ 64) where
   -- and for any record
   kept : {a : Reading} {lent : Spaces} → Reads line table old a lent → {x : After} → x ≡ workedBy a lent r table out → Right line switch r table out x
   kept {a} {lent} p e = rw e (go (inOrder r) refl)
@@ -245,14 +259,14 @@ module _ (line : List ℕ) (switch : Bool) (r : Record) (table out : List ℤ) (
   kept-read {w} {n} {k} {lent} p {o} {table′} {out′} e m h =
       kept p (ap₂ (λ (work : ℕ) (t : List ℤ). worth work (o .outcome .answer) (o .outcome .rec) t out′) m h ∙ ap (λ (d : Done). finished k d (settingsOf (take n (lent .numbers)) (take n (lent .amounts))) table) e)
 
-  -- refused by what was read
-  pub kept-refused : {a : Reading} {lent : Spaces} → Reads line table old a lent → (k : ℕ) → workedBy a lent r table out ≡ leaving (judgedAs (Refused k) r) r table out → {o : Report} →
-      o ≡ unchanged (judgedAs (Refused k) r) r → Right line switch r table out (after o table out)
-  kept-refused p k w h = kept p (ap (λ (o : Report). after o table out) h ∙ sym w)
+  -- not worked, by what was read
+  pub kept-as : {a : Reading} {lent : Spaces} → Reads line table old a lent → (k : Answer) → workedBy a lent r table out ≡ leaving (judgedAs k r) r table out → {o : Report} →
+      o ≡ unchanged (judgedAs k r) r → Right line switch r table out (after o table out)
+  kept-as p k w h = kept p (ap (λ (o : Report). after o table out) h ∙ sym w)
 
 -- ---- the lent spaces
 module _ (line : List ℕ) (switch : Bool) (table : List ℤ) (old : Spaces) where
-  lends-old : unread line switch table ≡ true → Lends line switch table old old
+  lends-old : notRead line switch table ≡ true → Lends line switch table old old
   unfolding lentAfter
   lends-old u = record { byTree = λ t d. rw u; byNone = λ h. rw u }
 
@@ -263,11 +277,11 @@ module _ (line : List ℕ) (switch : Bool) (table : List ℤ) (old : Spaces) whe
     pub lends-long : 256 < length line → Lends line switch table old old
     lends-long l = lends-old (rw (eq-eqb (length table) 5000 sized, lt-ltb 256 (length line) l))
 
-    pub lends-skipped : length line ≤ 256 → (switch && slashed line) ≡ true → Lends line switch table old old
+    pub lends-skipped : length line ≤ 256 → unread switch line ≡ true → Lends line switch table old old
     lends-skipped l s = lends-old (rw (eq-eqb (length table) 5000 sized, le-ltb 256 (length line) l, s))
 
-    pub lends-read : length line ≤ 256 → (switch && slashed line) ≡ false → {a : Reading} {lent : Spaces} → Reads line table old a lent → Lends line switch table old lent
+    pub lends-read : length line ≤ 256 → unread switch line ≡ false → {a : Reading} {lent : Spaces} → Reads line table old a lent → Lends line switch table old lent
     unfolding lentAfter
     lends-read l s p =
-        let u : unread line switch table ≡ false = rw (eq-eqb (length table) 5000 sized, le-ltb 256 (length line) l, s) in
+        let u : notRead line switch table ≡ false = rw (eq-eqb (length table) 5000 sized, le-ltb 256 (length line) l, s) in
         record { byTree = λ t d. rw u (ap (λ (x : Left). x .lent) (p .byTree l t d)); byNone = λ h. rw u (ap (λ (x : Left). x .lent) (p .byNone l h .is)) }

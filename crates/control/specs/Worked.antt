@@ -1,6 +1,6 @@
 -- What is left of a line from what reading it left: settings are applied and work is reported only where the line is accepted, and a record out of order comes first.
 -- Assumes nothing.
-use mathlib.Core.Bool.{Bool, cond, not, _&&_, _||_}
+use mathlib.Core.Bool.{Bool, cond, not, _||_}
 use mathlib.Core.List.{List, [], _∷_}
 use mathlib.Core.Option.{Option, none, some}
 use Prim.Native.Nat.{ℕ}
@@ -11,7 +11,7 @@ use Rattle.grammar.specs.Grammar.{Line}
 use Rattle.grammar.specs.Derivation.{ByForm}
 use Rattle.rules.specs.Meaning.{Setting}
 use Rattle.rules.specs.Reach.{inOrder}
-use Rattle.rules.specs.Promise.{After, worth, leaving, apply, slashed}
+use Rattle.rules.specs.Promise.{After, worth, leaving, apply, unread}
 use Rattle.rules.specs.declared.Record.{Record}
 use Rattle.rules.specs.declared.Report.{Report}
 use Rattle.rules.specs.declared.Answer.{Answer}
@@ -24,6 +24,10 @@ use Rattle.block.specs.Execution.{Done, execution}
 -- number 1 comes before every other answer
 abbrev pub judgedAs : Answer → Record → Answer
 judgedAs a r = cond (inOrder r) a (Refused 1)
+
+-- by the number that stopped the reading: 100 is a skip's
+abbrev pub stoppedAs : ℕ → Answer
+stoppedAs k = cond (eqb k 100) Skipped (Refused k)
 
 -- an answer that changes nothing: "others report 0"
 abbrev pub unchanged : Answer → Record → Report
@@ -55,7 +59,7 @@ finished work d ss table =
 abbrev pub workedBy : Reading → Spaces → Record → List ℤ → List ℤ → After
 workedBy (Read w n work) sp r table out =
     finished work (execution (take w (sp .letters)) (take w (sp .values)) r out) (settingsOf (take n (sp .numbers)) (take n (sp .amounts))) table
-workedBy (Stopped k) sp r table out = leaving (judgedAs (Refused k) r) r table out
+workedBy (Stopped k) sp r table out = leaving (judgedAs (stoppedAs k) r) r table out
 workedBy Deep sp r table out = leaving (judgedAs (Refused 16) r) r table out
 workedBy (Wrong p) sp r table out = leaving (judgedAs (Refused 3) r) r table out
 workedBy TooLong sp r table out = leaving (judgedAs (Refused 2) r) r table out
@@ -64,15 +68,15 @@ unfoldable pub worked : Left → Record → List ℤ → List ℤ → After
 worked l r table out = workedBy (l .answer) (l .lent) r table out
 
 -- the spaces for words and settings: a line that is not read leaves them as they were, any other as reading leaves them
-abbrev pub unread : List ℕ → Bool → List ℤ → Bool
-unread line switch table = not (eqb (length table) 5000) || ltb 256 (length line) || (switch && slashed line)
+abbrev pub notRead : List ℕ → Bool → List ℤ → Bool
+notRead line switch table = not (eqb (length table) 5000) || ltb 256 (length line) || unread switch line
 
 abbrev pub lentBy : Option Line → List ℤ → Spaces → Spaces
 lentBy none table old = zeros
 lentBy (some t) table old = leaves table old t .lent
 
 unfoldable pub lentAfter : Option Line → List ℕ → Bool → List ℤ → Spaces → Spaces
-lentAfter f line switch table old = cond (unread line switch table) old (lentBy f table old)
+lentAfter f line switch table old = cond (notRead line switch table) old (lentBy f table old)
 
 abbrev pub Lends : List ℕ → Bool → List ℤ → Spaces → Spaces → Type 0
 Lends line switch table old lent = ByForm line (λ f. lentAfter f line switch table old) lent

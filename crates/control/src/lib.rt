@@ -1,12 +1,12 @@
 // One line at a time: the interpreter, the record lent to each line, and the same with plain parameters.
 ghost use mathlib.Core.Path.{_≡_};
-ghost use mathlib.Core.Bool.{false, _&&_};
+ghost use mathlib.Core.Bool.{false};
 ghost use Prim.Native.Nat.{_≤_};
 ghost use lib.ListN.{length, take, set};
-ghost use Rattle.rules.specs.Promise.{Right, after, apply, slashed};
+ghost use Rattle.rules.specs.Promise.{Right, after, apply, unread};
 ghost use Rattle.block.specs.Execution.{execution};
 ghost use Rattle.reader.specs.Reading.{spaces};
-ghost use Rattle.control.specs.Worked.{judgedAs, unchanged, Lends, settingsOf, tableAfter, workDone};
+ghost use Rattle.control.specs.Worked.{judgedAs, stoppedAs, unchanged, Lends, settingsOf, tableAfter, workDone};
 use reader::Reading;
 use rules::Answer;
 use rules::Outcome;
@@ -62,7 +62,7 @@ pub fn interpret_in(
     if 256 < line.len() {
         return answered(Answer::Refused(2), rec);
     }
-    if skips(line, switch) {
+    if marks::unread(line, switch) {
         return answered(Answer::Skipped, rec);
     }
     sized(letters, values, numbers, amounts);
@@ -112,30 +112,6 @@ fn answered(answer: Answer, rec: Record) -> Report
     unchanged(Answer::Refused(1), rec)
 }
 
-// With the switch on, a line whose first byte that is no blank is `/`.
-fn skips(line: &[u8], switch: bool) -> bool
-    ensures { λ r. ⌜ r ≡ (switch && slashed (now (line .entry))) ⌝ }
-{
-    if switch {
-        return slashed(line);
-    }
-    false
-}
-
-fn slashed(line: &[u8]) -> bool
-    ensures { λ r. ⌜ r ≡ slashed (now (line .entry)) ⌝ }
-{
-    let mut i = 0;
-    while i < line.len() {
-        match line[i] {
-            b' ' | b'\t' => {}
-            b => return b == b'/',
-        }
-        i += 1;
-    }
-    false
-}
-
 // A line that neither its length nor the switch keeps from being read: what is read of it decides.
 fn read_and_work(
     line: &[u8],
@@ -148,7 +124,7 @@ fn read_and_work(
     numbers: &mut [usize; 64],
     amounts: &mut [i64; 64],
 ) -> Report
-    requires { ⌜ (length (now table) ≡ 5000) × (length (now line) ≤ 256) × ((switch && slashed (now line)) ≡ false) × (length (now letters) ≡ 128) × (length (now values) ≡ 128) × (length (now numbers) ≡ 64) × (length (now amounts) ≡ 64) ⌝ }
+    requires { ⌜ (length (now table) ≡ 5000) × (length (now line) ≤ 256) × (unread switch (now line) ≡ false) × (length (now letters) ≡ 128) × (length (now values) ≡ 128) × (length (now numbers) ≡ 64) × (length (now amounts) ≡ 64) ⌝ }
     ensures { λ r. ⌜ Right (now (line .entry)) switch rec (now (table .entry)) (now (out .entry)) (after r (now (table .exit)) (now (out .exit))) × Lends (now (line .entry)) switch (now (table .entry)) (spaces (now (letters .entry)) (now (values .entry)) (now (numbers .entry)) (now (amounts .entry))) (spaces (now (letters .exit)) (now (values .exit)) (now (numbers .exit)) (now (amounts .exit))) ⌝ }
 {
     match reader::read(line, table, letters, values, numbers, amounts) {
@@ -164,11 +140,21 @@ fn read_and_work(
             table,
             out,
         ),
-        Reading::Stopped(number) => answered(Answer::Refused(number), rec),
+        Reading::Stopped(number) => answered(stopped_as(number), rec),
         Reading::Deep => answered(Answer::Refused(16), rec),
         Reading::Wrong(_) => answered(Answer::Refused(3), rec),
         Reading::TooLong => answered(Answer::Refused(2), rec),
     }
+}
+
+// What the number that stopped the reading answers. 100 is a condition's no, and skips the line.
+fn stopped_as(number: u8) -> Answer
+    ensures { λ r. ⌜ r ≡ stoppedAs number ⌝ }
+{
+    if number == 100 {
+        return Answer::Skipped;
+    }
+    Answer::Refused(number)
 }
 
 // A line that is read: its words are worked, and where it is accepted its settings are applied.

@@ -110,7 +110,7 @@ spells And = omega arith
 spells Or = omega arith
 spells Xor = omega arith
 
-rest-stops : (q : Rest) (r : List ℕ) → Stops numeral (writeRest q ++ r)
+pub rest-stops : (q : Rest) (r : List ℕ) → Stops numeral (writeRest q ++ r)
 rest-stops done r = tt
 rest-stops (more Add v q) r = tt
 rest-stops (more Sub v q) r = tt

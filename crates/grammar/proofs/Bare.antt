@@ -10,13 +10,13 @@ use lib.ListN.{length, length-append}
 use Rattle.laws.proofs.Bools.{and-left, and-right, T-eq, not-eq}
 use Rattle.grammar.specs.Bytes.{byte, all}
 use Rattle.grammar.specs.Grammar.{Value, number, parameter, applied, grouped, Expr, expr, Rest, done, more}
-use Rattle.grammar.specs.Grammar.{Item, word, setting, comment, Line, line, remark}
-use Rattle.grammar.specs.Grammar.{spellFunc, spellOp, spellSlash, writeValue, writeExpr, writeRest, writeItem, writeItems, writeLabel, write}
-use Rattle.grammar.specs.Grammar.{ValueOk, ExprOk, RestOk, ItemsOk, LineOk}
+use Rattle.grammar.specs.Grammar.{Item, word, setting, comment, Mark, unmarked, plain, conditional, Line, line, remark}
+use Rattle.grammar.specs.Grammar.{spellFunc, spellOp, spellStroke, writeMark, writeValue, writeExpr, writeRest, writeItem, writeItems, writeLabel, write}
+use Rattle.grammar.specs.Grammar.{ValueOk, ExprOk, RestOk, ItemsOk, MarkOk, LineOk}
 use Rattle.grammar.specs.Derivation.{blank, raise, strip, inside, Derives}
-use Rattle.grammar.specs.Work.{valueWork, exprWork, restWork, itemsWork, work, bareBytes, bareAfter}
+use Rattle.grammar.specs.Work.{valueWork, exprWork, restWork, itemsWork, markWork, work, bareBytes, bareAfter}
 use Rattle.grammar.proofs.Back.{spells}
-use Rattle.grammar.proofs.Settled.{bare, settled, all-append, no-closing, raised, value-settled, letter-settled, label-settled, slash-settled}
+use Rattle.grammar.proofs.Settled.{bare, settled, all-append, no-closing, raised, value-settled, letter-settled, label-settled, mark-settled}
 use Rattle.grammar.proofs.Lengths.{value-bytes}
 
 -- ---- runs of bytes that count, and comments, which do not
@@ -68,13 +68,19 @@ items-work (comment bs ∷ is) o =
     let run : bareAfter ((bs ++ (byte ")" ∷ [])) ++ writeItems is) ≡ bareBytes (writeItems is) = rw append-assoc (comment-run bs (writeItems is) (o .0)) in
     omega (arith, run, items-work is (o .1))
 
+pub mark-work : (m : Mark) → MarkOk m → markWork m ≤ length (writeMark m)
+mark-work unmarked o = omega arith
+mark-work (plain k) o = omega arith
+mark-work (conditional k e) o = omega (arith, expr-work e o, length-append (spellStroke k) (writeExpr e))
+
 line-work : (t : Line) → LineOk t → work t ≤ bareBytes (write t)
-line-work (line s n is) o =
+line-work (line m n is) o =
     omega (
       arith,
-      items-work is (o .1),
-      bare-run (spellSlash s) (writeLabel n ++ writeItems is) (slash-settled s),
-      bare-run (writeLabel n) (writeItems is) (label-settled n (o .0)),
+      mark-work m (o .0),
+      items-work is (o .2),
+      bare-run (writeMark m) (writeLabel n ++ writeItems is) (mark-settled m (o .0)),
+      bare-run (writeLabel n) (writeItems is) (label-settled n (o .1)),
     )
 
 -- ---- preparing a line leaves those bytes in it

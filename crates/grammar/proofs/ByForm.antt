@@ -6,12 +6,12 @@ use mathlib.Core.Logic.{⊎-elim}
 use Prim.Native.Nat.{ℕ, zero, suc, _-_}
 use native.Mathlib.Omega.{arith}
 use lib.ListN.{length}
-use Rattle.grammar.specs.Grammar.{Line, Slash, Label}
+use Rattle.grammar.specs.Grammar.{Line, Label}
 use Rattle.grammar.specs.Derivation.{strip, Derives, ByForm}
 use Rattle.grammar.specs.Working.{Arithmetic, Took, Step, after, lineEntries}
-use Rattle.grammar.proofs.Read.{Read, fail, got, bind, mapR, parse, readSlash, readLabel}
+use Rattle.grammar.proofs.Read.{Read, fail, got, bind, mapR, parse, readLabel}
 use Rattle.grammar.proofs.Terms.{Pass}
-use Rattle.grammar.proofs.OnePass.{calcItem, calcItems, calcItemsOf, calcLine}
+use Rattle.grammar.proofs.OnePass.{calcItem, calcItems, calcItemsOf, calcMark, calcLine}
 use Rattle.grammar.proofs.Place.{Placed, wrong, found, place}
 use Rattle.grammar.proofs.Items.{lineP}
 use Rattle.grammar.proofs.Derivations.{found as finds, missed, decided, reads, reads-only}
@@ -49,7 +49,7 @@ module _ {W E S : Type 0} {A : Arithmetic W E} (P : Pass A S) where
   itemsOf-whole s = items-whole (suc (length s)) s
 
   line-whole : (s : List ℕ) → Whole (calcLine P s)
-  line-whole s = bind-whole (readSlash s) _ (λ _ r. bind-whole (readLabel r) _ (λ _ q. itemsOf-whole q))
+  line-whole s = bind-whole (calcMark P s) _ (λ st r. bind-whole (readLabel r) _ (λ _ q. map-whole (after st) (itemsOf-whole q)))
 
   -- what the pass over a prepared line makes of it, by any k, is by form
   module _ {X : Type 0} (k : Placed (Took E) → X) (none-is : X) (right : (Took E) → X) (r : (t : (Took E)) (p : ℕ) → k (found t p) ≡ right t) (w : (p : ℕ) → k (wrong p) ≡ none-is) where

@@ -9,10 +9,10 @@ use Prim.Native.Nat.{ℕ}
 use Prim.Native.String.{String}
 use lib.ListN.{replicate}
 use Rattle.grammar.specs.Bytes.{byte, bytes}
-use Rattle.grammar.specs.Grammar.{unsigned, plus, minus, num, whole, point, Value, number, parameter, grouped, expr, done, more, Item, word, setting, comment, plain, slash, unlabelled, label, Line, line}
+use Rattle.grammar.specs.Grammar.{unsigned, plus, minus, num, whole, point, Value, number, parameter, grouped, expr, done, more, Item, word, setting, comment, slash, backslash, unmarked, plain, conditional, unlabelled, label, Line, line}
 use Rattle.grammar.specs.Derivation.{strip, inside}
 use Rattle.grammar.specs.declared.Op.the-variants.{Add, Sub, Mul}
-use Rattle.grammar.proofs.Read.{parse, valueOf, itemsOf}
+use Rattle.grammar.proofs.Read.{parse, valueOf, restOf, exprOf, itemsOf}
 
 -- the tree that a line as typed is read to
 abbrev tree : List ℕ → Option Line
@@ -20,7 +20,7 @@ tree s = parse (strip s)
 
 -- a line of items alone
 abbrev items : List Item → Option Line
-items is = some (line plain unlabelled is)
+items is = some (line unmarked unlabelled is)
 
 -- whole numbers without a sign
 abbrev digits : String → Value
@@ -53,9 +53,14 @@ unfolding strip valueOf itemsOf
 an-empty-comment = refl
 
 -- blanks and small letters of a comment stay
-a-comment-kept : tree (bytes "/ n 1 0 (Cut it)") ≡ some (line slash (label (bytes "10")) (comment (bytes "Cut it") ∷ []))
+a-comment-kept : tree (bytes "/ n 1 0 (Cut it)") ≡ some (line (plain slash) (label (bytes "10")) (comment (bytes "Cut it") ∷ []))
 unfolding strip inside valueOf itemsOf
 a-comment-kept = refl
+
+-- a condition stands directly after its stroke, and blanks in it are dropped
+a-condition : tree (bytes "\\ [ 1 ] n5") ≡ some (line (conditional backslash (expr (digits "1") done)) (label (bytes "5")) [])
+unfolding strip valueOf restOf exprOf itemsOf
+a-condition = refl
 
 a-second-sign : tree (bytes "X[1--2]") ≡ items (word (byte "X") (grouped (expr (digits "1") (more Sub (number (num minus (bytes "2") whole)) done))) ∷ [])
 unfolding strip valueOf itemsOf
@@ -82,14 +87,15 @@ every p [] = true
 every p (s ∷ ss) = p (bytes s) && every p ss
 
 -- numbers, signs, labels and settings at their limits
-right-lines : every right ("N0" ∷ "N00000" ∷ "x5." ∷ "x.5" ∷ "x+.5" ∷ "x-0" ∷ "#-1=2" ∷ "###[1+1]=abs[2]" ∷ "X[7 M O D 3]" ∷ "(a)G1(b)X1(c)" ∷ "\tg1" ∷ []) ≡ true
-unfolding strip valueOf itemsOf
+right-lines : every right ("N0" ∷ "N00000" ∷ "x5." ∷ "x.5" ∷ "x+.5" ∷ "x-0" ∷ "#-1=2" ∷ "###[1+1]=abs[2]" ∷ "X[7 M O D 3]" ∷ "(a)G1(b)X1(c)" ∷ "\tg1" ∷ "\\" ∷ "\\N1" ∷ "/[1]" ∷ "/[#1-2*[3]]N5G0" ∷ []) ≡ true
+unfolding strip valueOf restOf exprOf itemsOf
 right-lines = refl
 
 wrong-lines : every wrong
     ("(never closed" ∷ "(a(b)" ∷ "a)" ∷ "N123456" ∷ "N" ∷ "N-1" ∷ "N1N2" ∷ "//" ∷ "(c)N1" ∷ "(c)/"
-    ∷ "X-#1" ∷ "X-[1]" ∷ "X[-#1]" ∷ "X." ∷ "X1.2.3" ∷ "X--1" ∷ "X1e5" ∷ "XABS1" ∷ "#1=2=3" ∷ "X[1=1]" ∷ "G(c)1" ∷ "X[1(c)]" ∷ "A1" ∷ "X" ∷ []) ≡ true
-unfolding strip inside valueOf itemsOf
+    ∷ "X-#1" ∷ "X-[1]" ∷ "X[-#1]" ∷ "X." ∷ "X1.2.3" ∷ "X--1" ∷ "X1e5" ∷ "XABS1" ∷ "#1=2=3" ∷ "X[1=1]" ∷ "G(c)1" ∷ "X[1(c)]" ∷ "A1" ∷ "X"
+    ∷ "[1]" ∷ "/(c)[1]" ∷ "/\\" ∷ "\\\\" ∷ "/[1][2]" ∷ "/[1]/" ∷ "/1" ∷ "/#1" ∷ "/[" ∷ "\\[]" ∷ "N1/[1]" ∷ "/N1[1]" ∷ []) ≡ true
+unfolding strip inside valueOf restOf exprOf itemsOf
 wrong-lines = refl
 
 -- 120 brackets within each other

@@ -9,13 +9,13 @@ use lib.Dec.{eqb, leb}
 use lib.ListN.{length, drop, getD, length-append, length-drop, drop-of-length-le}
 use lib.Seq.{drop-cons}
 use Rattle.grammar.specs.Bytes.{byte, bytes}
-use Rattle.grammar.specs.Grammar.{Item, ItemOk, letter, remark, digit, Label, label, unlabelled, Slash, writeItem, writeItems}
-use Rattle.grammar.specs.Working.{Arithmetic, Step, skip, Took, end, after, stepOf, entries}
-use Rattle.grammar.proofs.Read.{Read, fail, got, eat, bind, mapR, takeWhile, dropWhile, valueOf, readItem, readItems, itemsOf, readLabel, readSlash, labelled}
+use Rattle.grammar.specs.Grammar.{Item, ItemOk, letter, remark, digit, Label, label, unlabelled, Mark, writeItem, writeItems}
+use Rattle.grammar.specs.Working.{Arithmetic, Step, skip, Took, end, after, stepOf, entries, markStep}
+use Rattle.grammar.proofs.Read.{Read, fail, got, eat, bind, mapR, takeWhile, dropWhile, valueOf, readItem, readItems, itemsOf, readLabel, readMark, labelled}
 use Rattle.grammar.proofs.LineBack.{item-writes}
-use Rattle.grammar.proofs.Sound.{Good, nothing, front, byte-good, item-good, valueOf-good, label-good, slash-good}
+use Rattle.grammar.proofs.Sound.{Good, nothing, front, byte-good, item-good, valueOf-good, label-good, mark-good}
 use Rattle.grammar.proofs.Terms.{Pass}
-use Rattle.grammar.proofs.OnePass.{calcOf, calc-value, calcItem, calcSetting, calcItems, calcItemsOf, calcLine, item-same, items-same, itemsOf-same}
+use Rattle.grammar.proofs.OnePass.{calcOf, calc-value, calcItem, calcSetting, calcItems, calcItemsOf, calcMark, calcLine, mark-same, item-same, items-same, itemsOf-same}
 use Rattle.grammar.proofs.Fuel.{read-agree, shorter}
 use Rattle.grammar.proofs.Place.{Placed, wrong, found, bindP, mapP, place, Sits, off, sits, good-sits, map-sits, place-bind, place-map, place-cond, valueP, calc-sits}
 
@@ -106,12 +106,16 @@ module _ {W E S : Type 0} {A : Arithmetic W E} (P : Pass A S) where
     unfoldable pub labelP : ℕ → Placed Label
     labelP at = place s (readLabel (drop at s))
 
-    unfoldable pub slashP : Placed Slash
-    slashP = place s (readSlash s)
+    unfoldable pub markP : Placed (Step E)
+    markP = place s (calcMark P s)
 
     unfoldable pub lineP : Placed (Took E)
     lineP = place s (calcLine P s)
 
-    pub line-place : lineP ≡ bindP slashP (λ _ p. bindP (labelP p) (λ _ q. itemsP q))
-    unfolding lineP slashP labelP itemsP
-    line-place = place-bind s _ _ (good-sits s 0 (slash-good s)) (λ _ p _. place-bind s _ _ (good-sits s p (label-good (drop p s))) (λ _ q _. refl))
+    mark-sits : Sits s (calcMark P s)
+    mark-sits = rw (mark-same P s) (map-sits (markStep A) (good-sits s 0 (mark-good s)))
+
+    pub line-place : lineP ≡ bindP markP (λ st p. bindP (labelP p) (λ _ q. mapP (after st) (itemsP q)))
+    unfolding lineP markP labelP itemsP
+    line-place =
+        place-bind s _ _ mark-sits (λ st p _. place-bind s _ _ (good-sits s p (label-good (drop p s))) (λ _ q _. place-map s (after st) (calcItemsOf P (drop q s))))

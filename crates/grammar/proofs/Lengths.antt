@@ -9,7 +9,7 @@ use lib.Dec.{eqb}
 use lib.ListN.{length, length-append}
 use Rattle.grammar.specs.Bytes.{byte}
 use Rattle.grammar.specs.Grammar.{Fraction, whole, point, Number, num, Value, number, parameter, applied, grouped, Expr, expr, Item, word, setting, comment, Line, line}
-use Rattle.grammar.specs.Grammar.{spellSign, spellFunc, spellSlash, writeFraction, fractionDigits, writeNumber, writeValue, writeExpr, writeRest, writeItem, writeItems, writeLabel, write, NumOk, ValueOk, ItemOk, ItemsOk}
+use Rattle.grammar.specs.Grammar.{spellSign, spellFunc, writeMark, writeFraction, fractionDigits, writeNumber, writeValue, writeExpr, writeRest, writeItem, writeItems, writeLabel, write, NumOk, ValueOk, ItemOk, ItemsOk}
 use Rattle.grammar.specs.Derivation.{strip, inside, blank, raise, Derives}
 
 fraction-bytes : (f : Fraction) → length (fractionDigits f) ≤ length (writeFraction f)
@@ -78,16 +78,16 @@ mutual
   inside-length (b ∷ s) = keep (eqb b (byte ")")) b (length s) (strip s) (inside s) (strip-length s) (inside-length s)
 
 abbrev pub itemsOf : Line → List Item
-itemsOf (line s n is) = is
+itemsOf (line m n is) = is
 
 line-bytes : (t : Line) (s : List ℕ) → Derives t s → 2 * wordCount (itemsOf t) + 4 * settingCount (itemsOf t) ≤ length s
-line-bytes (line sl n is) s d =
+line-bytes (line m n is) s d =
     omega (
       arith,
-      items-bytes is (d .ok .1),
+      items-bytes is (d .ok .2),
       strip-length s,
       ap length (d .writes),
-      length-append (spellSlash sl) (writeLabel n ++ writeItems is),
+      length-append (writeMark m) (writeLabel n ++ writeItems is),
       length-append (writeLabel n) (writeItems is),
     )
 

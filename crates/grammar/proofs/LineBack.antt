@@ -7,13 +7,13 @@ use native.Mathlib.Omega.{arith}
 use native.Mathlib.Decide.{ℕ-discrete}
 use lib.Dec.{T, leb, eqb, eqb→eq, leb→le, le→leb, not-T, T-not}
 use lib.ListN.{length, length-append}
-use Rattle.grammar.specs.Grammar.{Value, writeValue, digit, letter, remark, ValueOk}
+use Rattle.grammar.specs.Grammar.{Value, writeValue, Expr, expr, writeExpr, Rest, writeRest, digit, letter, remark, ValueOk, ExprOk, RestOk}
 use Rattle.grammar.specs.Bytes.{byte, bytes, all}
-use Rattle.grammar.specs.Grammar.{Item, word, setting, comment, Slash, plain, slash, Label, label, unlabelled, Line, line}
-use Rattle.grammar.specs.Grammar.{writeItem, writeItems, spellSlash, writeLabel, write, ItemOk, ItemsOk, LabelOk, LineOk}
-use Rattle.grammar.proofs.Read.{Read, fail, got, eat, bind, mapR, takeWhile, dropWhile, valueOf, itemsOf, readSlash}
+use Rattle.grammar.specs.Grammar.{Item, word, setting, comment, Stroke, slash, backslash, Mark, unmarked, plain, conditional, Label, label, unlabelled, Line, line}
+use Rattle.grammar.specs.Grammar.{writeItem, writeItems, spellStroke, writeMark, writeLabel, write, ItemOk, ItemsOk, LabelOk, MarkOk, LineOk}
+use Rattle.grammar.proofs.Read.{Read, fail, got, eat, bind, mapR, takeWhile, dropWhile, valueOf, restOf, itemsOf, exprOf, readCondition, readMark}
 use Rattle.grammar.proofs.Read.{readValue, readSetting, readComment, readItem, readItems, readLabel, readLine}
-use Rattle.grammar.proofs.Back.{Stops, numeral, take-back, drop-back, differs, value-back, stops-digit}
+use Rattle.grammar.proofs.Back.{Stops, numeral, take-back, drop-back, differs, value-back, rest-back, rest-stops, inner, stops-digit}
 use Rattle.laws.proofs.Bools.{and-right, or-cases, T-eq, below}
 
 -- a word's letter is neither a digit nor the point
@@ -80,15 +80,43 @@ label-back (label ds) l ok oks =
       T-eq (leb (length ds) 5) (le→leb (length ds) 5 (ok .2)),
     )
 
-slash-back : (s : Slash) (n : Label) (l : List Item) → ItemsOk l → readSlash (spellSlash s ++ (writeLabel n ++ writeItems l)) ≡ got s (writeLabel n ++ writeItems l)
-slash-back slash n l oks = refl
-slash-back plain (label ds) l oks = refl
-slash-back plain unlabelled l oks = go (writeItems l) refl
+-- an expression after its bracket
+restOf-back : (q : Rest) (r : List ℕ) → RestOk q → restOf (writeRest q ++ r) ≡ got q r
+unfolding restOf
+restOf-back q r ok = rest-back q (suc (length (writeRest q ++ r))) r ok (omega (arith, length-append (writeRest q) r))
+
+pub exprOf-back : (e : Expr) (r : List ℕ) → ExprOk e → exprOf (inner e ++ r) ≡ got e r
+unfolding exprOf
+exprOf-back (expr v q) r ok = rw (append-assoc (writeValue v) (writeRest q) r, valueOf-back v (writeRest q ++ r) (ok .0) (rest-stops q r), restOf-back q r (ok .1))
+
+-- what follows a mark, N or an item, begins with none of the bytes that a mark has
+pub after-mark : (k : ℕ) (n : Label) (l : List Item) → ItemsOk l → T (not (letter k)) → eqb k (byte "#") ≡ false → eqb k (byte "(") ≡ false → eqb k (byte "N") ≡ false →
+    (b : ℕ) (s : List ℕ) → writeLabel n ++ writeItems l ≡ b ∷ s → eqb k b ≡ false
+after-mark k unlabelled l oks t e g m b s h = items-miss k l oks t e g b s h
+after-mark k (label ds) l oks t e g m b s h = let q : byte "N" ≡ b = cc in rw q at m
+
+step-condition : (k : Stroke) (s : List ℕ) → readMark (spellStroke k ++ s) ≡ readCondition k s
+step-condition slash s = refl
+step-condition backslash s = refl
+
+opened : (k : Stroke) (e : Expr) (r : List ℕ) → readCondition k (writeExpr e ++ r) ≡ mapR (conditional k) (exprOf (inner e ++ r))
+opened k (expr v q) r = refl
+
+mark-back : (m : Mark) (n : Label) (l : List Item) → MarkOk m → ItemsOk l → readMark (writeMark m ++ (writeLabel n ++ writeItems l)) ≡ got m (writeLabel n ++ writeItems l)
+mark-back (conditional k e) n l ok oks =
+    rw (append-assoc (spellStroke k) (writeExpr e) (writeLabel n ++ writeItems l))
+    (step-condition k (writeExpr e ++ (writeLabel n ++ writeItems l)) ∙ opened k e (writeLabel n ++ writeItems l) ∙ ap (mapR (conditional k)) (exprOf-back e (writeLabel n ++ writeItems l) ok))
+mark-back (plain k) n l ok oks = step-condition k (writeLabel n ++ writeItems l) ∙ go (writeLabel n ++ writeItems l) refl
   where
-    go : (s : List ℕ) → writeItems l ≡ s → readSlash s ≡ got plain s
+    go : (s : List ℕ) → writeLabel n ++ writeItems l ≡ s → readCondition k s ≡ got (plain k) s
     go [] e = refl
-    go (b ∷ s) e = rw (items-miss (byte "/") l oks tt refl refl b s e)
+    go (b ∷ s) e = rw (after-mark (byte "[") n l oks tt refl refl refl b s e)
+mark-back unmarked n l ok oks = go (writeLabel n ++ writeItems l) refl
+  where
+    go : (s : List ℕ) → writeLabel n ++ writeItems l ≡ s → readMark s ≡ got unmarked s
+    go [] e = refl
+    go (b ∷ s) e = rw (after-mark (byte "/") n l oks tt refl refl refl b s e, after-mark (byte "\\") n l oks tt refl refl refl b s e)
 
 pub line-back : (t : Line) → LineOk t → readLine (write t) ≡ got t []
 unfolding itemsOf
-line-back (line s n l) ok = rw (slash-back s n l (ok .1), label-back n l (ok .0) (ok .1), items-back l (suc (length (writeItems l))) (ok .1) (omega arith))
+line-back (line m n l) ok = rw (mark-back m n l (ok .0) (ok .2), label-back n l (ok .1) (ok .2), items-back l (suc (length (writeItems l))) (ok .2) (omega arith))

@@ -14,16 +14,16 @@ use lib.Dec.{leb, eqb}
 use lib.ListN.{length, drop, length-append, length-drop}
 use lib.Seq.{drop-append-le}
 use Rattle.grammar.specs.Grammar.{unsigned, plus, minus, Sign, Fraction, whole, point, num, Value, number, parameter, applied, grouped, expr, done, more}
-use Rattle.grammar.specs.Grammar.{word, setting, comment, Slash, plain, slash, Label, label, unlabelled, line, digit, letter, remark, fractionDigits, writeItem}
+use Rattle.grammar.specs.Grammar.{word, setting, comment, Stroke, slash, backslash, Mark, unmarked, plain, conditional, Label, label, unlabelled, line, digit, letter, remark, fractionDigits}
 use Rattle.grammar.proofs.Read.{Read, fail, got, eat, bind, mapR, takeWhile, dropWhile, readSign, readFraction, finish, readNumber, numeric}
 use Rattle.grammar.proofs.Read.{Head, hash, bare, call, Tail, close, oper, readF, readHead, readTail, readExpr, readAfter, readMore, readValue, readRest}
-use Rattle.grammar.proofs.Read.{valueOf, readSetting, readComment, readItem, readItems, itemsOf, labelled, readLabel, readSlash, readLine}
-use Rattle.grammar.proofs.Sound.{Good, front, while-good, value-good, rest-good, valueOf-good, item-good, itemsOf-good, label-good}
-use Rattle.grammar.proofs.LineBack.{item-writes}
-use Rattle.grammar.proofs.Fuel.{read-agree, shorter, value-fuel}
+use Rattle.grammar.proofs.Read.{valueOf, restOf, exprOf, readSetting, readComment, readItem, readItems, itemsOf, labelled, readLabel, readCondition, readMark, readLine}
+use Rattle.grammar.proofs.Sound.{Good, front, while-good, value-good, rest-good, valueOf-good, restOf-good, item-good, itemsOf-good, label-good}
+use Rattle.grammar.proofs.Fuel.{shorter, value-fuel, rest-fuel}
+use Rattle.grammar.proofs.Items.{items-fuel}
 use Rattle.grammar.specs.declared.Op.the-variants.{Add, Sub, Mul, Div, Mod, And, Or, Xor}
 use Rattle.grammar.specs.declared.Func.the-variants.{Abs, Fix, Fup, Round}
-use Rattle.grammar.proofs.Viable.{Stops, goes, past, value-stops, rest-stops, valueOf-stops, item-stops, itemsOf-stops, label-stops}
+use Rattle.grammar.proofs.Viable.{Stops, goes, past, value-stops, rest-stops, valueOf-stops, restOf-stops, item-stops, itemsOf-stops, label-stops}
 
 -- ---- what is left is no longer than what there was
 
@@ -102,13 +102,16 @@ rest-bound f s = bounded s (rest-stops f s) (rest-good f s)
 valueOf-bound : (s : List ℕ) → Bounded (length s) (valueOf s)
 valueOf-bound s = bounded s (valueOf-stops s) (valueOf-good s)
 
--- fuel past the bytes to read changes nothing
-items-fuel : (f g : ℕ) (s : List ℕ) → length s < f → length s < g → readItems f s ≡ readItems g s
-items-fuel zero g s a b = absurd (omega arith)
-items-fuel (suc f) zero s a b = absurd (omega arith)
-items-fuel (suc f) (suc g) [] a b = refl
-items-fuel (suc f) (suc g) (c ∷ s) a b =
-    read-agree _ _ (item-good (c ∷ s)) (λ i r e. ap (mapR (λ l. i ∷ l)) (items-fuel f g r (omega (arith, shorter (c ∷ s) (writeItem i) r e, item-writes i)) (omega (arith, shorter (c ∷ s) (writeItem i) r e, item-writes i))))
+restOf-bound : (s : List ℕ) → Bounded (length s) (restOf s)
+restOf-bound s = bounded s (restOf-stops s) (restOf-good s)
+
+exprOf-bound : (s : List ℕ) → Bounded (length s) (exprOf s)
+unfolding exprOf
+exprOf-bound s = bound-bind (valueOf s) _ (valueOf-bound s) (λ v r. bound-map (expr v) (restOf r) (restOf-bound r))
+
+condition-bound : (k : Stroke) (s : List ℕ) → Bounded (length s) (readCondition k s)
+condition-bound k [] = all-left (plain k) []
+condition-bound k (b ∷ s) = bound-if (eqb 91 b) (one-more (length s) (bound-map (conditional k) (exprOf s) (exprOf-bound s))) (all-left (plain k) (b ∷ s))
 
 -- ---- two lines that are alike up to a byte b, and then go on as q and as z
 
@@ -373,20 +376,37 @@ module _ (b : ℕ) (q z : List ℕ) where
   label-twin [] = twin-if (eqb 78 b) (beyond _ _ (labelled-bound q)) (passed unlabelled [])
   label-twin (y ∷ x) = twin-if (eqb 78 y) (labelled-twin x) (passed unlabelled (y ∷ x))
 
-  slash-twin : (x : List ℕ) → Twin (readSlash (x ++ (b ∷ q))) (readSlash (x ++ (b ∷ z)))
-  slash-twin [] = twin-if (eqb 47 b) (beyond _ _ (all-left _ q)) (passed plain [])
-  slash-twin (y ∷ x) = twin-if (eqb 47 y) (passed slash x) (passed plain (y ∷ x))
+  restOf-twin : (x : List ℕ) → Twin (restOf (x ++ (b ∷ q))) (restOf (x ++ (b ∷ z)))
+  unfolding restOf
+  restOf-twin x =
+      rw (
+        rest-fuel (suc (length (x ++ (b ∷ q)))) (suc (length (x ++ (b ∷ q)) + length (x ++ (b ∷ z)))) (x ++ (b ∷ q)) (omega arith) (omega arith),
+        rest-fuel (suc (length (x ++ (b ∷ z)))) (suc (length (x ++ (b ∷ q)) + length (x ++ (b ∷ z)))) (x ++ (b ∷ z)) (omega arith) (omega arith),
+      )
+      (rest-twin (suc (length (x ++ (b ∷ q)) + length (x ++ (b ∷ z)))) x)
 
-  after-label-bound : (sl : Slash) (n : Label) (r : List ℕ) → Bounded (length r) (mapR (line sl n) (itemsOf r))
-  after-label-bound sl n r = bound-map (line sl n) (itemsOf r) (itemsOf-bound r)
+  exprOf-twin : (x : List ℕ) → Twin (exprOf (x ++ (b ∷ q))) (exprOf (x ++ (b ∷ z)))
+  unfolding exprOf
+  exprOf-twin x = twin-bind (λ v s. mapR (expr v) (restOf s)) (valueOf-twin x) (λ v s. bound-map (expr v) (restOf s) (restOf-bound s)) (λ v y. twin-map (expr v) (restOf-twin y))
 
-  after-slash-bound : (sl : Slash) (r : List ℕ) → Bounded (length r) (bind (readLabel r) (λ n s. mapR (line sl n) (itemsOf s)))
-  after-slash-bound sl r = bound-bind (readLabel r) _ (bounded r (label-stops r) (label-good r)) (after-label-bound sl)
+  condition-twin : (k : Stroke) (x : List ℕ) → Twin (readCondition k (x ++ (b ∷ q))) (readCondition k (x ++ (b ∷ z)))
+  condition-twin k [] = twin-if (eqb 91 b) (beyond _ _ (bound-map (conditional k) (exprOf q) (exprOf-bound q))) (passed (plain k) [])
+  condition-twin k (y ∷ x) = twin-if (eqb 91 y) (twin-map (conditional k) (exprOf-twin x)) (passed (plain k) (y ∷ x))
+
+  mark-twin : (x : List ℕ) → Twin (readMark (x ++ (b ∷ q))) (readMark (x ++ (b ∷ z)))
+  mark-twin [] = twin-if (eqb 47 b) (beyond _ _ (condition-bound slash q)) (twin-if (eqb 92 b) (beyond _ _ (condition-bound backslash q)) (passed unmarked []))
+  mark-twin (y ∷ x) = twin-if (eqb 47 y) (condition-twin slash x) (twin-if (eqb 92 y) (condition-twin backslash x) (passed unmarked (y ∷ x)))
+
+  after-label-bound : (m : Mark) (n : Label) (r : List ℕ) → Bounded (length r) (mapR (line m n) (itemsOf r))
+  after-label-bound m n r = bound-map (line m n) (itemsOf r) (itemsOf-bound r)
+
+  after-mark-bound : (m : Mark) (r : List ℕ) → Bounded (length r) (bind (readLabel r) (λ n s. mapR (line m n) (itemsOf s)))
+  after-mark-bound m r = bound-bind (readLabel r) _ (bounded r (label-stops r) (label-good r)) (after-label-bound m)
 
   line-twin : (x : List ℕ) → Twin (readLine (x ++ (b ∷ q))) (readLine (x ++ (b ∷ z)))
   line-twin x =
-      twin-bind (λ sl r. bind (readLabel r) (λ n s. mapR (line sl n) (itemsOf s))) (slash-twin x) after-slash-bound
-      (λ sl y. twin-bind (λ n s. mapR (line sl n) (itemsOf s)) (label-twin y) (after-label-bound sl) (λ n u. twin-map (line sl n) (itemsOf-twin u)))
+      twin-bind (λ m r. bind (readLabel r) (λ n s. mapR (line m n) (itemsOf s))) (mark-twin x) after-mark-bound
+      (λ m y. twin-bind (λ n s. mapR (line m n) (itemsOf s)) (label-twin y) (after-label-bound m) (λ n u. twin-map (line m n) (itemsOf-twin u)))
 
   -- the line that stops at b stops there whatever follows
   nothing-before : (x : List ℕ) → x ++ (b ∷ q) ≡ b ∷ q → x ≡ []

@@ -6,10 +6,10 @@ use Prim.Native.Nat.{ℕ, zero, suc}
 use lib.Dec.{eqb}
 use lib.ListN.{length}
 use Rattle.grammar.specs.Bytes.{byte, bytes}
-use Rattle.grammar.specs.Grammar.{Number, Value, number, parameter, applied, grouped, Expr, expr, Rest, done, more, Item, word, setting, comment, letter, remark, Slash, Label, Line, line}
-use Rattle.grammar.specs.Working.{Arithmetic, value, expression, pairs, Step, skip, Took, end, after, stepOf, entries, lineEntries}
+use Rattle.grammar.specs.Grammar.{Number, Value, number, parameter, applied, grouped, Expr, expr, Rest, done, more, Item, word, setting, comment, letter, remark, Stroke, slash, backslash, Mark, unmarked, plain, conditional, Label, Line, line}
+use Rattle.grammar.specs.Working.{Arithmetic, value, expression, pairs, Step, skip, Took, end, after, stepOf, entries, markStep, lineEntries}
 use Rattle.grammar.proofs.Read.{Read, fail, got, eat, bind, mapR, readNumber, opensNumber, readHead, readTail}
-use Rattle.grammar.proofs.Read.{Head, hash, bare, call, Tail, close, oper, readExpr, readAfter, readMore, readValue, readRest, valueOf, restOf, readItem, readItems, itemsOf, readSetting, readComment, takeWhile, dropWhile, readLabel, readSlash, readLine}
+use Rattle.grammar.proofs.Read.{Head, hash, bare, call, Tail, close, oper, readExpr, readAfter, readMore, readValue, readRest, valueOf, restOf, readItem, readItems, itemsOf, readSetting, readComment, takeWhile, dropWhile, readLabel, exprOf, readCondition, readMark, readLine}
 use Rattle.grammar.proofs.Terms.{Pass, onePass}
 use Rattle.grammar.specs.declared.Op.{Op}
 
@@ -154,9 +154,42 @@ module _ {W E S : Type 0} {A : Arithmetic W E} (P : Pass A S) where
   unfolding calcItemsOf itemsOf
   itemsOf-same s = items-same (suc (length s)) s
 
+  -- the mark
+  unfoldable pub calcExprOf : List ℕ → Read W
+  calcExprOf s = calcExpr calcOf calcRestOf s
+
+  calc-rest : (st : S) (s : List ℕ) → calcRestOf st s ≡ mapR (λ q. onePass P st (pairs A q)) (restOf s)
+  unfolding calcRestOf restOf
+  calc-rest st s = rest-same (suc (length s)) st s
+
+  pub calc-expr : (s : List ℕ) → calcExprOf s ≡ mapR (expression A) (exprOf s)
+  unfolding calcExprOf exprOf
+  calc-expr s = expr-same valueOf restOf calc-value calc-rest s
+
+  abbrev pub calcCondition : Stroke → List ℕ → Read (Step E)
+  calcCondition k [] = got skip []
+  calcCondition k (b ∷ s) = cond (eqb (byte "[") b) (mapR (A .conditionOf k) (calcExprOf s)) (got skip (b ∷ s))
+
+  abbrev pub calcMark : List ℕ → Read (Step E)
+  calcMark [] = got skip []
+  calcMark (b ∷ s) = cond (eqb (byte "/") b) (calcCondition slash s) (cond (eqb (byte "\\") b) (calcCondition backslash s) (got skip (b ∷ s)))
+
+  condition-same : (k : Stroke) (s : List ℕ) → calcCondition k s ≡ mapR (markStep A) (readCondition k s)
+  condition-same k [] = refl
+  condition-same k (b ∷ s) = cond-map (markStep A) (eqb (byte "[") b) _ _ _ _ (rw (calc-expr s) (map-map _ _ (exprOf s) ∙ sym (map-map _ _ (exprOf s)))) refl
+
+  pub mark-same : (s : List ℕ) → calcMark s ≡ mapR (markStep A) (readMark s)
+  mark-same [] = refl
+  mark-same (b ∷ s) =
+      cond-map (markStep A) (eqb (byte "/") b) _ _ _ _ (condition-same slash s) (cond-map (markStep A) (eqb (byte "\\") b) _ _ _ _ (condition-same backslash s) refl)
+
   abbrev pub calcLine : List ℕ → Read (Took E)
-  calcLine s = bind (readSlash s) (λ sl r. bind (readLabel r) (λ n q. calcItemsOf q))
+  calcLine s = bind (calcMark s) (λ st r. bind (readLabel r) (λ n q. mapR (after st) (calcItemsOf q)))
 
   pub line-same : (s : List ℕ) → calcLine s ≡ mapR (lineEntries A) (readLine s)
-  line-same s =
-      map-bind (lineEntries A) (readSlash s) _ _ (λ sl r. map-bind (lineEntries A) (readLabel r) _ _ (λ n q. itemsOf-same q ∙ sym (map-map _ _ (itemsOf q))))
+  line-same s = rw (mark-same s) (go (readMark s))
+    where
+      go : (m : Read Mark) →
+          bind (mapR (markStep A) m) (λ st r. bind (readLabel r) (λ n q. mapR (after st) (calcItemsOf q))) ≡ mapR (lineEntries A) (bind m (λ k r. bind (readLabel r) (λ n q. mapR (line k n) (itemsOf q))))
+      go (fail q) = refl
+      go (got k r) = map-bind (lineEntries A) (readLabel r) _ _ (λ n q. rw (itemsOf-same q) (map-map _ _ (itemsOf q) ∙ sym (map-map _ _ (itemsOf q))))

@@ -10,7 +10,7 @@ use Rattle.grammar.specs.Bytes.{byte, bytes}
 use Rattle.grammar.specs.Grammar.{Sign, unsigned, plus, minus}
 use Rattle.grammar.specs.Grammar.{Fraction, whole, point, Number, num, Value, number, parameter, applied, grouped, Expr, expr, Rest, done, more}
 use Rattle.grammar.specs.Grammar.{spellSign, spellFunc, spellOp, digit, fractionDigits, letter, remark}
-use Rattle.grammar.specs.Grammar.{Item, word, setting, comment, Slash, plain, slash, Label, label, unlabelled, Line, line}
+use Rattle.grammar.specs.Grammar.{Item, word, setting, comment, Stroke, slash, backslash, Mark, unmarked, plain, conditional, Label, label, unlabelled, Line, line}
 use Rattle.grammar.specs.declared.Op.{Op}
 use Rattle.grammar.specs.declared.Op.the-variants.{Add, Sub, Mul, Div, Mod, And, Or, Xor}
 use Rattle.grammar.specs.declared.Func.{Func}
@@ -175,12 +175,20 @@ abbrev pub readLabel : List ℕ → Read Label
 readLabel [] = got unlabelled []
 readLabel (b ∷ s) = cond (eqb (byte "N") b) (labelled (takeWhile digit s) (dropWhile digit s)) (got unlabelled (b ∷ s))
 
-abbrev pub readSlash : List ℕ → Read Slash
-readSlash [] = got plain []
-readSlash (b ∷ s) = cond (eqb (byte "/") b) (got slash s) (got plain (b ∷ s))
+-- a condition after its bracket; and what follows a stroke
+unfoldable pub exprOf : List ℕ → Read Expr
+exprOf s = readExpr valueOf restOf s
+
+abbrev pub readCondition : Stroke → List ℕ → Read Mark
+readCondition k [] = got (plain k) []
+readCondition k (b ∷ s) = cond (eqb (byte "[") b) (mapR (conditional k) (exprOf s)) (got (plain k) (b ∷ s))
+
+abbrev pub readMark : List ℕ → Read Mark
+readMark [] = got unmarked []
+readMark (b ∷ s) = cond (eqb (byte "/") b) (readCondition slash s) (cond (eqb (byte "\\") b) (readCondition backslash s) (got unmarked (b ∷ s)))
 
 abbrev pub readLine : List ℕ → Read Line
-readLine s = bind (readSlash s) (λ sl r. bind (readLabel r) (λ n q. mapR (line sl n) (itemsOf q)))
+readLine s = bind (readMark s) (λ m r. bind (readLabel r) (λ n q. mapR (line m n) (itemsOf q)))
 
 abbrev pub answer : Read Line → Option Line
 answer (fail q) = none

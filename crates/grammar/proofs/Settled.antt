@@ -9,9 +9,9 @@ use lib.Dec.{T, leb, eqb, eqb→eq, leb→le}
 use Rattle.laws.proofs.Bools.{and-left, and-right, or-cases, T-eq, below}
 use Rattle.grammar.specs.Bytes.{byte, bytes, among, all}
 use Rattle.grammar.specs.Grammar.{Sign, unsigned, plus, minus, Fraction, whole, point, num, Value, number, parameter, applied, grouped, Expr, expr, Rest, done, more}
-use Rattle.grammar.specs.Grammar.{Slash, plain, slash, Label, unlabelled, label, digit, letter, remark}
-use Rattle.grammar.specs.Grammar.{spellSign, spellFunc, spellOp, spellSlash, fractionDigits, writeFraction, writeValue, writeExpr, writeRest, writeLabel}
-use Rattle.grammar.specs.Grammar.{ValueOk, ExprOk, RestOk, LabelOk}
+use Rattle.grammar.specs.Grammar.{Stroke, slash, backslash, Mark, unmarked, plain, conditional, Label, unlabelled, label, digit, letter, remark}
+use Rattle.grammar.specs.Grammar.{spellSign, spellFunc, spellOp, spellStroke, writeMark, fractionDigits, writeFraction, writeValue, writeExpr, writeRest, writeLabel}
+use Rattle.grammar.specs.Grammar.{ValueOk, ExprOk, RestOk, LabelOk, MarkOk}
 use Rattle.grammar.specs.Derivation.{blank, raise}
 use Rattle.grammar.specs.declared.Op.{Op}
 use Rattle.grammar.specs.declared.Op.the-variants.{Add, Sub, Mul, Div, Mod, And, Or, Xor}
@@ -55,7 +55,7 @@ raised b = go (leb 97 b && leb b 122) refl
         let p = same (blank b) (eqb b 40) (blank (b - 32)) (eqb (b - 32) 40) (and-left (bare b && bare (b - 32)) (eqb (raise (b - 32)) (b - 32)) small) in
         (p .0, p .1, eqb→eq (raise (b - 32)) (b - 32) (and-right (bare b && bare (b - 32)) (eqb (raise (b - 32)) (b - 32)) small))
 
--- ---- all that a value, a letter, a label and a slash write is so
+-- ---- all that a value, a letter, a label and a mark write is so
 
 module _ (p : ℕ → Bool) where
   pub all-append : (x y : List ℕ) → T (all p x) → T (all p y) → T (all p (x ++ y))
@@ -127,6 +127,11 @@ pub label-settled : (n : Label) → LabelOk n → T (all settled (writeLabel n))
 label-settled unlabelled o = tt
 label-settled (label ds) o = digits-settled ds (o .0)
 
-pub slash-settled : (s : Slash) → T (all settled (spellSlash s))
-slash-settled plain = tt
-slash-settled slash = tt
+stroke-settled : (k : Stroke) → T (all settled (spellStroke k))
+stroke-settled slash = tt
+stroke-settled backslash = tt
+
+pub mark-settled : (m : Mark) → MarkOk m → T (all settled (writeMark m))
+mark-settled unmarked o = tt
+mark-settled (plain k) o = stroke-settled k
+mark-settled (conditional k e) o = all-append settled (spellStroke k) (writeExpr e) (stroke-settled k) (expr-settled e o)

@@ -10,11 +10,11 @@ use Rattle.grammar.specs.Grammar.{Sign, unsigned, plus, minus}
 use Rattle.grammar.specs.Grammar.{Fraction, whole, point, Number, num, Value, number, parameter, applied, grouped, Expr, expr, Rest, done, more}
 use Rattle.grammar.specs.Grammar.{spellSign, spellFunc, spellOp, digit, fractionDigits, writeFraction, writeNumber, writeValue, writeExpr, writeRest, NumberOk, NumOk, ValueOk, ExprOk, RestOk}
 use Rattle.grammar.specs.Bytes.{byte, bytes, all}
-use Rattle.grammar.specs.Grammar.{letter, remark, Item, word, setting, comment, Slash, plain, slash, Label, label, unlabelled, Line, line}
-use Rattle.grammar.specs.Grammar.{writeItem, writeItems, spellSlash, writeLabel, write, ItemOk, ItemsOk, LabelOk, LineOk}
+use Rattle.grammar.specs.Grammar.{letter, remark, Item, word, setting, comment, Stroke, slash, backslash, Mark, unmarked, plain, conditional, Label, label, unlabelled, Line, line}
+use Rattle.grammar.specs.Grammar.{writeItem, writeItems, spellStroke, writeMark, writeLabel, write, ItemOk, ItemsOk, LabelOk, MarkOk, LineOk}
 use Rattle.grammar.proofs.Read.{Read, fail, got, eat, bind, mapR, takeWhile, dropWhile, readSign, readFraction, finish, readNumber}
 use Rattle.grammar.proofs.Read.{Head, hash, bare, call, spellHead, Tail, close, oper, spellTail, numeric, opensNumber, readF, headBy, readHead, tailBy, readTail, readExpr, readAfter, readMore, readValue, readRest}
-use Rattle.grammar.proofs.Read.{valueOf, restOf, readSetting, readComment, readItem, readItems, itemsOf, readLabel, readSlash, readLine}
+use Rattle.grammar.proofs.Read.{valueOf, restOf, readSetting, readComment, readItem, readItems, itemsOf, readLabel, exprOf, readCondition, readMark, readLine}
 use Rattle.grammar.specs.declared.Op.the-variants.{Add, Sub, Mul, Div, Mod, And, Or, Xor}
 use Rattle.grammar.specs.declared.Func.the-variants.{Abs, Fix, Fup, Round}
 
@@ -95,7 +95,7 @@ module _ (p : ℕ → Bool) where
       go true e = ap {B = List ℕ} (λ l. b ∷ l) e
       go false e = refl
 
-  while-all : (s : List ℕ) → T (all p (takeWhile p s))
+  pub while-all : (s : List ℕ) → T (all p (takeWhile p s))
   while-all [] = tt
   while-all (b ∷ s) = go (p b) refl (while-all s)
     where
@@ -176,9 +176,24 @@ label-good (b ∷ s) =
     (λ u. if-good (leb (length (takeWhile digit s)) 5) (λ v. front (cc (eqb→eq (byte "N") b t, while-good digit s)) (while-all digit s, leb→le 1 _ u, omega (arith, leb→le (length (takeWhile digit s)) 5 v))) (λ _. nothing)) (λ _. nothing))
     (λ _. front refl tt)
 
-pub slash-good : (s : List ℕ) → Good spellSlash Any s (readSlash s)
-slash-good [] = front refl tt
-slash-good (b ∷ s) = if-good (eqb (byte "/") b) (λ t. front (cc (eqb→eq (byte "/") b t)) tt) (λ _. front refl tt)
+pub restOf-good : (s : List ℕ) → Good writeRest RestOk s (restOf s)
+unfolding restOf
+restOf-good s = rest-good (suc (length s)) s
+
+pub exprOf-good : (s : List ℕ) → Good writeExpr ExprOk (byte "[" ∷ s) (exprOf s)
+unfolding exprOf
+exprOf-good s = expr-good valueOf-good restOf-good s
+
+condition-good : (k : Stroke) (b : ℕ) (s : List ℕ) → spellStroke k ≡ b ∷ [] → Good writeMark MarkOk (b ∷ s) (readCondition k s)
+condition-good k b [] h = front {a = plain k} {r = []} (rw h) tt
+condition-good k b (c ∷ s) h =
+    if-good (eqb (byte "[") c) (λ t. map-good (conditional k) (exprOf-good s) (λ e r d. simp append-assoc (cc (eqb→eq (byte "[") c t))) (λ e o. o)) (λ _. front {a = plain k} {r = c ∷ s} (rw h) tt)
+
+pub mark-good : (s : List ℕ) → Good writeMark MarkOk s (readMark s)
+mark-good [] = front refl tt
+mark-good (b ∷ s) =
+    if-good (eqb (byte "/") b) (λ t. condition-good slash b s (cc (eqb→eq (byte "/") b t)))
+    (λ _. if-good (eqb (byte "\\") b) (λ t. condition-good backslash b s (cc (eqb→eq (byte "\\") b t))) (λ _. front refl tt))
 
 pub itemsOf-good : (s : List ℕ) → Good writeItems ItemsOk s (itemsOf s)
 unfolding itemsOf
@@ -186,4 +201,4 @@ itemsOf-good s = items-good (suc (length s)) s
 
 pub line-good : (s : List ℕ) → Good write LineOk s (readLine s)
 line-good s =
-    bind-good (slash-good s) (λ sl r e _. bind-good (label-good r) (λ n q e′ on. map-good (line sl n) (itemsOf-good q) (λ l p e″. simp append-assoc (cc)) (λ l ol. (on, ol))))
+    bind-good (mark-good s) (λ m r e om. bind-good (label-good r) (λ n q e′ on. map-good (line m n) (itemsOf-good q) (λ l p e″. simp append-assoc (cc)) (λ l ol. (om, on, ol))))

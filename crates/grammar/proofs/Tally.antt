@@ -6,7 +6,7 @@ use mathlib.Core.Bool.{Bool, true, false, cond}
 use mathlib.Core.List.{List, [], _∷_}
 use Prim.Native.Nat.{ℕ, suc, _+_, max}
 use native.Mathlib.Omega.{arith}
-use Rattle.grammar.specs.Grammar.{Value, number, parameter, applied, grouped, Expr, expr, Rest, done, more, Item, word, setting, comment, Line, line}
+use Rattle.grammar.specs.Grammar.{Value, number, parameter, applied, grouped, Expr, expr, Rest, done, more, Item, word, setting, comment, unmarked, plain, conditional, Line, line}
 use Rattle.grammar.specs.Work.{valueWork, exprWork, restWork, itemsWork, work, valueDepth, exprDepth, restDepth, itemsDepth, depth}
 use Rattle.grammar.specs.Working.{Arithmetic, Step, give, Took, end, stopped, took, Contents, high, Pair, pair, Sum, push, after, terms, total, inOrder, value, expression, pairs, entries, lineEntries, contents}
 use Rattle.grammar.specs.declared.Op.{Op}
@@ -28,6 +28,7 @@ tallied A = record {
   work = λ o v w. record { is = A .work o (v .is) (w .is); work = suc (v .work + w .work); depth = max (v .depth) (w .depth) };
   wordOf = λ b w. give (record { is = A .wordOf b (w .is); work = w .work; depth = w .depth });
   settingOf = λ v w. give (record { is = A .settingOf (v .is) (w .is); work = v .work + w .work; depth = max (v .depth) (w .depth) });
+  conditionOf = λ k w. give (record { is = A .conditionOf k (w .is); work = w .work; depth = suc (w .depth) });
 }
 
 module _ {W E : Type 0} (A : Arithmetic W E) where
@@ -114,23 +115,30 @@ module _ {W E : Type 0} (A : Arithmetic W E) where
   joined : Tallied (Step E) → Contents E → Contents E
   joined x c = record { entries = after (x .is) (c .entries); work = x .work + c .work; depth = max (x .depth) (c .depth) }
 
+  -- a comment, or a mark without a condition, adds nothing
+  nothing-more : (is : List Item) → _≡_ {A = Contents E} (record { entries = entries A is; work = itemsWork is; depth = itemsDepth is }) (record { entries = entries A is; work = 0 + itemsWork is; depth = max 0 (itemsDepth is) })
+  nothing-more is = λ i. record { entries = entries A is; work = no-work i; depth = no-depth i }
+    where
+      no-work : itemsWork is ≡ 0 + itemsWork is
+      no-work = omega arith
+
+      no-depth : itemsDepth is ≡ max 0 (itemsDepth is)
+      no-depth = omega arith
+
   items-gathered : (is : List Item) → gather (entries (tallied A) is) ≡ record { entries = entries A is; work = itemsWork is; depth = itemsDepth is }
   unfolding joined
   items-gathered [] = refl
   items-gathered (word b v ∷ is) = ap₂ joined (ap (λ (x : Tallied W). record { is = A .wordOf b (x .is); work = x .work; depth = x .depth }) (value-tallied v)) (items-gathered is)
   items-gathered (setting v w ∷ is) =
       ap₂ joined (ap₂ (λ (x y : Tallied W). record { is = A .settingOf (x .is) (y .is); work = x .work + y .work; depth = max (x .depth) (y .depth) }) (value-tallied v) (value-tallied w)) (items-gathered is)
-  items-gathered (comment bs ∷ is) = items-gathered is ∙ (λ i. record { entries = entries A is; work = none-more i; depth = none-deeper i })
-    where
-      none-more : itemsWork is ≡ 0 + itemsWork is
-      none-more = omega arith
-
-      none-deeper : itemsDepth is ≡ max 0 (itemsDepth is)
-      none-deeper = omega arith
+  items-gathered (comment bs ∷ is) = items-gathered is ∙ nothing-more is
 
   -- a line read with its tallies gives the contents of its derivation
   pub line-gathered : (t : Line) → gather (lineEntries (tallied A) t) ≡ contents A t
-  line-gathered (line s n is) = items-gathered is
+  unfolding joined
+  line-gathered (line (conditional k e) n is) = ap₂ joined (ap (λ (x : Tallied W). record { is = A .conditionOf k (x .is); work = x .work; depth = suc (x .depth) }) (expr-tallied e)) (items-gathered is)
+  line-gathered (line (plain k) n is) = items-gathered is ∙ nothing-more is
+  line-gathered (line unmarked n is) = items-gathered is ∙ nothing-more is
 
 -- a state with the work and the depth of the expression so far
 pub record Counted (S : Type 0) : Type 0 where

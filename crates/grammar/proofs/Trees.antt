@@ -11,12 +11,12 @@ use lib.Dec.{eqb}
 use lib.ListN.{length, drop, getD, length-drop, drop-of-length-le}
 use lib.Seq.{drop-cons}
 use Rattle.grammar.specs.Bytes.{byte, bytes}
-use Rattle.grammar.specs.Grammar.{Value, number, parameter, applied, grouped, Expr, expr, Rest, done, more, Item, word, setting, comment, Line, line, Label, Slash}
-use Rattle.grammar.specs.Grammar.{letter, remark, writeValue, ValueOk, writeItem, ItemOk}
+use Rattle.grammar.specs.Grammar.{Value, number, parameter, applied, grouped, Expr, expr, Rest, done, more, Item, word, setting, comment, Stroke, slash, backslash, Mark, unmarked, plain, conditional, Line, line, Label}
+use Rattle.grammar.specs.Grammar.{letter, remark, writeValue, ValueOk, writeItem, ItemOk, writeMark, MarkOk, writeLabel, LabelOk}
 use Rattle.grammar.proofs.Read.{Read, fail, got, eat, bind, mapR, takeWhile, dropWhile, readNumber, readAfter, readExpr, readMore, restOf, valueOf, opensNumber, Head, hash, bare, call, Tail, close, oper}
-use Rattle.grammar.proofs.Read.{readItem, readSetting, readItems, itemsOf, readLabel, readSlash, readLine}
+use Rattle.grammar.proofs.Read.{readItem, readSetting, readItems, itemsOf, readLabel, exprOf, readCondition, readMark, readHead, readLine}
 use Rattle.grammar.proofs.LineBack.{item-writes}
-use Rattle.grammar.proofs.Sound.{Good, nothing, front, byte-good, head-good, tail-good, valueOf-good, item-good, label-good, slash-good}
+use Rattle.grammar.proofs.Sound.{Good, nothing, front, byte-good, head-good, tail-good, valueOf-good, item-good, label-good, mark-good}
 use Rattle.grammar.proofs.Fuel.{value-eq, rest-eq, read-agree, shorter}
 use Rattle.grammar.proofs.Place.{Placed, wrong, found, bindP, mapP, place, place-map, place-bind, place-cond, good-sits, spelt, numberP, headP, tailP}
 use Rattle.grammar.proofs.Items.{items-fuel}
@@ -146,12 +146,60 @@ module _ (s : List ℕ) where
   unfoldable pub labelT : ℕ → Placed Label
   labelT at = place s (readLabel (drop at s))
 
-  unfoldable pub slashT : Placed Slash
-  slashT = place s (readSlash s)
+  -- the bytes that a label takes
+  pub label-ends : (at : ℕ) (n : Label) (p : ℕ) → at ≤ length s → labelT at ≡ found n p → (p ≡ at + length (writeLabel n)) × (p ≤ length s)
+  unfolding labelT
+  label-ends at n p l e = spelt writeLabel LabelOk s at n p l (label-good (drop at s)) e
+
+  unfoldable pub markT : Placed Mark
+  markT = place s (readMark s)
+
+  -- the bytes that a mark takes
+  pub mark-ends : (m : Mark) (p : ℕ) → markT ≡ found m p → (p ≡ 0 + length (writeMark m)) × (p ≤ length s)
+  unfolding markT
+  mark-ends m p e = spelt writeMark MarkOk s 0 m p (omega arith) (mark-good s) e
+
+  pub mark-right : (m : Mark) (p : ℕ) → markT ≡ found m p → MarkOk m
+  unfolding markT
+  mark-right m p e = good-there writeMark MarkOk s 0 m p (mark-good s) e
+
+  -- a value that begins with a bracket is the expression in it
+  module _ (at : ℕ) (l : at < length s) (e : getD s at 0 ≡ byte "[") where
+    opened : drop at s ≡ 91 ∷ drop (at + 1) s
+    opened = first at l ∙ ap (λ (b : ℕ). b ∷ drop (at + 1) s) e
+
+    opening : headP s at ≡ found bare (at + 1)
+    unfolding headP
+    opening = ap (λ (d : List ℕ). place s (readHead d)) opened ∙ ap (found bare) (simp length-drop (omega arith))
+
+    pub bracket-tree : valueT at ≡ mapP grouped (exprT (at + 1))
+    bracket-tree = value-tree at ∙ rw (opened, opening)
 
   unfoldable pub lineT : Placed Line
   lineT = place s (readLine s)
 
-  pub line-tree : lineT ≡ bindP slashT (λ x p. bindP (labelT p) (λ n q. mapP (line x n) (itemsT q)))
-  unfolding lineT slashT labelT itemsT
-  line-tree = place-bind s _ _ (good-sits s 0 (slash-good s)) (λ x p _. place-bind s _ _ (good-sits s p (label-good (drop p s))) (λ n q _. place-map s (line x n) (itemsOf (drop q s))))
+  pub line-tree : lineT ≡ bindP markT (λ m p. bindP (labelT p) (λ n q. mapP (line m n) (itemsT q)))
+  unfolding lineT markT labelT itemsT
+  line-tree = place-bind s _ _ (good-sits s 0 (mark-good s)) (λ m p _. place-bind s _ _ (good-sits s p (label-good (drop p s))) (λ n q _. place-map s (line m n) (itemsOf (drop q s))))
+
+-- a stroke that stands first: where a bracket opens after it, with a condition
+abbrev pub strokeT : List ℕ → Stroke → Placed Mark
+strokeT s k = cond (eqb (byte "[") (getD s 1 0)) (mapP (conditional k) (exprT s 2)) (found (plain k) 1)
+
+stroke-tree : (k : Stroke) (b : ℕ) (s : List ℕ) → place (b ∷ s) (readCondition k s) ≡ strokeT (b ∷ s) k
+unfolding exprOf
+stroke-tree k b [] = refl
+stroke-tree k b (c ∷ s) = go (eqb 91 c)
+  where
+    go : (x : Bool) → place (b ∷ c ∷ s) (cond x (mapR (conditional k) (exprOf s)) (got (plain k) (c ∷ s))) ≡ cond x (mapP (conditional k) (exprT (b ∷ c ∷ s) 2)) (found (plain k) 1)
+    go true = place-map (b ∷ c ∷ s) (conditional k) (exprOf s) ∙ ap (mapP (conditional k)) (expr-tree (b ∷ c ∷ s) 2)
+    go false = ap (found (plain k)) (omega arith)
+
+pub mark-tree : (b : ℕ) (s : List ℕ) → markT (b ∷ s) ≡ cond (eqb (byte "/") b) (strokeT (b ∷ s) slash) (cond (eqb (byte "\\") b) (strokeT (b ∷ s) backslash) (found unmarked 0))
+unfolding markT
+mark-tree b s = go (eqb 47 b) (eqb 92 b)
+  where
+    go : (x y : Bool) → place (b ∷ s) (cond x (readCondition slash s) (cond y (readCondition backslash s) (got unmarked (b ∷ s)))) ≡ cond x (strokeT (b ∷ s) slash) (cond y (strokeT (b ∷ s) backslash) (found unmarked 0))
+    go true y = stroke-tree slash b s
+    go false true = stroke-tree backslash b s
+    go false false = ap (found unmarked) (omega arith)

@@ -12,13 +12,13 @@ use lib.Seq.{take-append-le}
 use Rattle.laws.proofs.Bools.{and-left, and-right}
 use Rattle.grammar.specs.Bytes.{all}
 use Rattle.grammar.specs.Grammar.{Sign, unsigned, plus, minus, Fraction, whole, point, num, Value, number, parameter, applied, grouped, Expr, expr, Rest, done, more}
-use Rattle.grammar.specs.Grammar.{Item, word, setting, comment, Slash, Label, label, unlabelled, Line, line, digit, letter, remark}
-use Rattle.grammar.specs.Grammar.{spellSign, spellFunc, spellOp, spellSlash, writeFraction, fractionDigits, writeNumber, writeValue, writeExpr, writeRest, writeItem, writeItems, writeLabel, write}
-use Rattle.grammar.specs.Grammar.{NumOk, ValueOk, ExprOk, RestOk, ItemOk, ItemsOk, LabelOk, LineOk}
+use Rattle.grammar.specs.Grammar.{Item, word, setting, comment, Stroke, slash, backslash, Mark, conditional, Label, label, unlabelled, Line, line, digit, letter, remark}
+use Rattle.grammar.specs.Grammar.{spellSign, spellFunc, spellOp, spellStroke, writeMark, writeFraction, fractionDigits, writeNumber, writeValue, writeExpr, writeRest, writeItem, writeItems, writeLabel, write}
+use Rattle.grammar.specs.Grammar.{NumOk, ValueOk, ExprOk, RestOk, ItemOk, ItemsOk, LabelOk, MarkOk, LineOk}
 use Rattle.grammar.proofs.Read.{Read, fail, got, eat, bind, mapR, takeWhile, dropWhile, readSign, readFraction, finish, readNumber, opensNumber}
 use Rattle.grammar.proofs.Read.{Head, hash, bare, call, spellHead, Tail, close, oper, spellTail, readF, readHead, readTail, readExpr, readAfter, readMore, readValue, readRest}
-use Rattle.grammar.proofs.Read.{valueOf, readSetting, readComment, readItem, readItems, itemsOf, labelled, readLabel, readSlash, readLine}
-use Rattle.grammar.proofs.Sound.{Good, nothing, front, Any, byte-good, head-good, tail-good, while-good, value-good, valueOf-good, item-good, label-good, slash-good}
+use Rattle.grammar.proofs.Read.{valueOf, restOf, exprOf, readSetting, readComment, readItem, readItems, itemsOf, labelled, readLabel, readCondition, readMark, readLine}
+use Rattle.grammar.proofs.Sound.{Good, front, Any, byte-good, head-good, tail-good, while-good, while-all, value-good, valueOf-good, item-good, label-good, mark-good}
 use Rattle.grammar.specs.declared.Op.the-variants.{Mod, And, Or, Xor}
 use Rattle.grammar.specs.declared.Func.the-variants.{Abs, Fix, Fup, Round}
 
@@ -314,14 +314,6 @@ setting-stops s =
     to : (v : Value) (r : List ℕ) {m : Read Item} → s ≡ writeValue v ++ r → Stops writeItem ItemOk ((35 ∷ writeValue v) ++ r) m → Stops writeItem ItemOk (35 ∷ s) m
     to v r {m} e h = rw e h
 
-while-all : (p : ℕ → Bool) (s : List ℕ) → T (all p (takeWhile p s))
-while-all p [] = tt
-while-all p (b ∷ s) = go (p b) refl (while-all p s)
-  where
-    go : (c : Bool) → p b ≡ c → T (all p (takeWhile p s)) → T (all p (cond c (b ∷ takeWhile p s) []))
-    go true e h = rw e h
-    go false e h = tt
-
 comment-stops : (s : List ℕ) → Stops writeItem ItemOk (40 ∷ s) (readComment s)
 comment-stops s =
     eat-stops (comment (takeWhile remark s)) (while-all remark s) (41 ∷ []) (dropWhile remark s) (40 ∷ takeWhile remark s) (ap (λ (y : List ℕ). 40 ∷ y) (while-good remark s)) refl
@@ -397,22 +389,42 @@ label-stops (b ∷ s) = if-stops (eqb 78 b) (λ t. from (eqb→eq 78 b t) (label
     from : {m : Read Label} → 78 ≡ b → Stops writeLabel LabelOk (78 ∷ s) m → Stops writeLabel LabelOk (b ∷ s) m
     from e h = rw e at h
 
-pub slash-stops : (s : List ℕ) → Stops spellSlash Any s (readSlash s)
-slash-stops [] = goes
-slash-stops (b ∷ s) = if-stops (eqb 47 b) (λ _. goes) (λ _. goes)
+pub restOf-stops : (s : List ℕ) → Stops writeRest RestOk s (restOf s)
+unfolding restOf
+restOf-stops s = rest-stops (suc (length s)) s
 
-after-slash : (sl : Slash) (r : List ℕ) → Stops write LineOk (spellSlash sl ++ r) (bind (readLabel r) (λ n q. mapR (line sl n) (itemsOf q)))
-after-slash sl r =
-    bind-stops (spellSlash sl) (label-stops r) (label-good r) (λ x b. within (spellSlash sl) (λ n. line sl n []) [] (λ n. refl) (λ n o. (o, tt)) b)
-    (λ n q e o. to n q e (map-stops (line sl n) (spellSlash sl ++ writeLabel n) (itemsOf-stops q) (λ x b. within (spellSlash sl ++ writeLabel n) (line sl n) [] (λ l. ap (λ (y : List ℕ). spellSlash sl ++ (writeLabel n ++ y)) (sym (append-nil (writeItems l))) ∙ sym (append-assoc (spellSlash sl) (writeLabel n) (writeItems l ++ []))) (λ l p. (o, p)) b)))
+pub exprOf-stops : (s : List ℕ) → Stops writeExpr ExprOk (91 ∷ s) (exprOf s)
+unfolding exprOf
+exprOf-stops s = expr-stops valueOf-good valueOf-stops restOf-stops s
+
+condition-stops : (k : Stroke) (b : ℕ) (s : List ℕ) → spellStroke k ≡ b ∷ [] → Stops writeMark MarkOk (b ∷ s) (readCondition k s)
+condition-stops k b [] h = goes
+condition-stops k b (c ∷ s) h = if-stops (eqb 91 c) (λ t. from (eqb→eq 91 c t) inner) (λ _. goes)
   where
-    to : (n : Label) (q : List ℕ) {m : Read Line} → r ≡ writeLabel n ++ q → Stops write LineOk ((spellSlash sl ++ writeLabel n) ++ q) m → Stops write LineOk (spellSlash sl ++ r) m
-    to n q {m} e h = rw (e, sym (append-assoc (spellSlash sl) (writeLabel n) q)) h
+    from : {m : Read Mark} → 91 ≡ c → Stops writeMark MarkOk (b ∷ 91 ∷ s) m → Stops writeMark MarkOk (b ∷ c ∷ s) m
+    from e d = rw e at d
+
+    inner : Stops writeMark MarkOk (b ∷ 91 ∷ s) (mapR (conditional k) (exprOf s))
+    inner = map-stops (conditional k) (b ∷ []) (exprOf-stops s) (λ x d. within (b ∷ []) (conditional k) [] (λ e. rw (h, append-nil (writeExpr e))) (λ e o. o) d)
+
+pub mark-stops : (s : List ℕ) → Stops writeMark MarkOk s (readMark s)
+mark-stops [] = goes
+mark-stops (b ∷ s) =
+    if-stops (eqb 47 b) (λ t. condition-stops slash b s (ap (λ (y : ℕ). y ∷ []) (eqb→eq 47 b t)))
+    (λ _. if-stops (eqb 92 b) (λ t. condition-stops backslash b s (ap (λ (y : ℕ). y ∷ []) (eqb→eq 92 b t))) (λ _. goes))
+
+after-mark : (m : Mark) → MarkOk m → (r : List ℕ) → Stops write LineOk (writeMark m ++ r) (bind (readLabel r) (λ n q. mapR (line m n) (itemsOf q)))
+after-mark m om r =
+    bind-stops (writeMark m) (label-stops r) (label-good r) (λ x b. within (writeMark m) (λ n. line m n []) [] (λ n. refl) (λ n o. (om, o, tt)) b)
+    (λ n q e o. to n q e (map-stops (line m n) (writeMark m ++ writeLabel n) (itemsOf-stops q) (λ x b. within (writeMark m ++ writeLabel n) (line m n) [] (λ l. ap (λ (y : List ℕ). writeMark m ++ (writeLabel n ++ y)) (sym (append-nil (writeItems l))) ∙ sym (append-assoc (writeMark m) (writeLabel n) (writeItems l ++ []))) (λ l p. (om, o, p)) b)))
+  where
+    to : (n : Label) (q : List ℕ) {t : Read Line} → r ≡ writeLabel n ++ q → Stops write LineOk ((writeMark m ++ writeLabel n) ++ q) t → Stops write LineOk (writeMark m ++ r) t
+    to n q {t} e h = rw (e, sym (append-assoc (writeMark m) (writeLabel n) q)) h
 
 pub line-stops : (s : List ℕ) → Stops write LineOk s (readLine s)
 line-stops s =
-    bind-stops [] (slash-stops s) (slash-good s) (λ x b. within [] (λ sl. line sl unlabelled []) [] (λ sl. refl) (λ sl o. (tt, tt)) b)
-    (λ sl r e _. to sl r e (after-slash sl r))
+    bind-stops [] (mark-stops s) (mark-good s) (λ x b. within [] (λ m. line m unlabelled []) [] (λ m. refl) (λ m o. (o, tt, tt)) b)
+    (λ m r e o. to m r e (after-mark m o r))
   where
-    to : (sl : Slash) (r : List ℕ) {m : Read Line} → s ≡ spellSlash sl ++ r → Stops write LineOk (spellSlash sl ++ r) m → Stops write LineOk s m
-    to sl r {m} e h = rw e h
+    to : (m : Mark) (r : List ℕ) {t : Read Line} → s ≡ writeMark m ++ r → Stops write LineOk (writeMark m ++ r) t → Stops write LineOk s t
+    to m r {t} e h = rw e h

@@ -49,16 +49,22 @@ pub data Item : Type 0 where
   setting : Value → Value → Item
   comment : List ℕ → Item
 
--- "line: optional `/`, optional N with one to five digits, then any number of items"
-pub data Slash : Type 0 where
-  plain slash : Slash
+-- "line: optional `/`, optional N with one to five digits, then any number of items"; ticket 6 of document 02: "`/[expression]` (run if not zero) and
+-- `\[expression]` (run if zero), and a plain `\`"
+pub data Stroke : Type 0 where
+  slash backslash : Stroke
+
+pub data Mark : Type 0 where
+  unmarked : Mark
+  plain : Stroke → Mark
+  conditional : Stroke → Expr → Mark
 
 pub data Label : Type 0 where
   unlabelled : Label
   label : List ℕ → Label
 
 pub data Line : Type 0 where
-  line : Slash → Label → List Item → Line
+  line : Mark → Label → List Item → Line
 
 -- ---- what a tree writes
 
@@ -118,16 +124,21 @@ abbrev pub writeItems : List Item → List ℕ
 writeItems [] = []
 writeItems (i ∷ is) = writeItem i ++ writeItems is
 
-abbrev pub spellSlash : Slash → List ℕ
-spellSlash plain = []
-spellSlash slash = bytes "/"
+abbrev pub spellStroke : Stroke → List ℕ
+spellStroke slash = bytes "/"
+spellStroke backslash = bytes "\\"
+
+abbrev pub writeMark : Mark → List ℕ
+writeMark unmarked = []
+writeMark (plain k) = spellStroke k
+writeMark (conditional k e) = spellStroke k ++ writeExpr e
 
 abbrev pub writeLabel : Label → List ℕ
 writeLabel unlabelled = []
 writeLabel (label ds) = byte "N" ∷ ds
 
 abbrev pub write : Line → List ℕ
-write (line s n is) = spellSlash s ++ (writeLabel n ++ writeItems is)
+write (line m n is) = writeMark m ++ (writeLabel n ++ writeItems is)
 
 -- ---- what the rules ask of a tree's leaves
 
@@ -183,5 +194,10 @@ abbrev pub LabelOk : Label → Type 0
 LabelOk unlabelled = Unit {0}
 LabelOk (label ds) = T (all digit ds) × (1 ≤ length ds) × (length ds ≤ 5)
 
+abbrev pub MarkOk : Mark → Type 0
+MarkOk unmarked = Unit {0}
+MarkOk (plain k) = Unit {0}
+MarkOk (conditional k e) = ExprOk e
+
 abbrev pub LineOk : Line → Type 0
-LineOk (line s n is) = LabelOk n × ItemsOk is
+LineOk (line m n is) = MarkOk m × LabelOk n × ItemsOk is

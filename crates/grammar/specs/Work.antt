@@ -5,7 +5,7 @@ use mathlib.Core.List.{List, [], _∷_}
 use Prim.Native.Nat.{ℕ, suc, _+_, max}
 use lib.Dec.{eqb}
 use Rattle.grammar.specs.Bytes.{byte}
-use Rattle.grammar.specs.Grammar.{Value, number, parameter, applied, grouped, Expr, expr, Rest, done, more, Item, word, setting, comment, Line, line}
+use Rattle.grammar.specs.Grammar.{Value, number, parameter, applied, grouped, Expr, expr, Rest, done, more, Item, word, setting, comment, Mark, unmarked, plain, conditional, Line, line}
 use Rattle.grammar.specs.Derivation.{blank}
 
 -- ---- "the values and operations worked out: one for each value and each operator in its derivation"
@@ -33,8 +33,14 @@ abbrev pub itemsWork : List Item → ℕ
 itemsWork [] = 0
 itemsWork (i ∷ is) = itemWork i + itemsWork is
 
+-- a condition is an expression and no value
+abbrev pub markWork : Mark → ℕ
+markWork unmarked = 0
+markWork (plain k) = 0
+markWork (conditional k e) = exprWork e
+
 abbrev pub work : Line → ℕ
-work (line s n is) = itemsWork is
+work (line m n is) = markWork m + itemsWork is
 
 -- ---- "Nesting, of `[` and `#` one within another in the derivation (a setting's first `#` aside)"
 
@@ -62,8 +68,13 @@ abbrev pub itemsDepth : List Item → ℕ
 itemsDepth [] = 0
 itemsDepth (i ∷ is) = max (itemDepth i) (itemsDepth is)
 
+abbrev pub markDepth : Mark → ℕ
+markDepth unmarked = 0
+markDepth (plain k) = 0
+markDepth (conditional k e) = suc (exprDepth e)
+
 abbrev pub depth : Line → ℕ
-depth (line s n is) = itemsDepth is
+depth (line m n is) = max (markDepth m) (itemsDepth is)
 
 -- ---- "the line's bytes that are neither blank nor in a comment", of the line as it is typed
 

@@ -1,17 +1,17 @@
 -- In which order the values of a tree are worked out, whatever the arithmetic is. What numbers, parameters, functions and operations come to is handed in;
--- so is what a word or a setting gives. W is what a value comes to (a value or a refusal), E what an item gives.
+-- so is what a word, a setting or a condition gives. W is what a value comes to (a value or a refusal), E what an item gives.
 -- Assumes nothing.
 use mathlib.Core.Bool.{Bool, true, false, cond}
 use mathlib.Core.List.{List, [], _∷_}
 use mathlib.Core.Option.{Option, none, some}
 use Prim.Native.Nat.{ℕ}
-use Rattle.grammar.specs.Grammar.{Number, Value, number, parameter, applied, grouped, Expr, expr, Rest, done, more, Item, word, setting, comment, Line, line}
+use Rattle.grammar.specs.Grammar.{Number, Value, number, parameter, applied, grouped, Expr, expr, Rest, done, more, Item, word, setting, comment, Stroke, Mark, unmarked, plain, conditional, Line, line}
 use Rattle.grammar.specs.Work.{work, depth}
 use Rattle.grammar.specs.declared.Op.{Op}
 use Rattle.grammar.specs.declared.Op.the-variants.{Add, Sub, Mul, Div, Mod, And, Or, Xor}
 use Rattle.grammar.specs.declared.Func.{Func}
 
--- what one item gives: nothing (a comment), a word or a setting, or the number that stops the reading
+-- what one item gives: nothing (a comment, or a condition that says yes), a word or a setting, or the number that stops the reading
 pub data Step (E : Type 0) : Type 0 where
   skip : Step E
   give : E → Step E
@@ -38,6 +38,7 @@ pub record Arithmetic (W E : Type 0) : Type 0 where
   pub work : Op → W → W → W
   pub wordOf : ℕ → W → Step E
   pub settingOf : W → W → Step E
+  pub conditionOf : Stroke → W → Step E
 
 -- "`* / MOD` bind before the rest"
 abbrev pub high : Op → Bool
@@ -105,9 +106,15 @@ module _ {W E : Type 0} (A : Arithmetic W E) where
   entries [] = end
   entries (i ∷ is) = after (stepOf i) (entries is)
 
+  -- "The condition is worked out first"
+  abbrev pub markStep : Mark → Step E
+  markStep unmarked = skip
+  markStep (plain k) = skip
+  markStep (conditional k e) = A .conditionOf k (expression e)
+
   -- "reading returns the tree's words and settings in order, with their values, up to the first of numbers 4 to 7"
   abbrev pub lineEntries : Line → Took E
-  lineEntries (line s n is) = entries is
+  lineEntries (line m n is) = after (markStep m) (entries is)
 
   abbrev pub contents : Line → Contents E
   contents t = record { entries = lineEntries t; work = work t; depth = depth t }

@@ -1,4 +1,4 @@
--- Demand 3, of what `read` leaves: for a derived line the tree's words and settings, in order and with their values, up to the first of numbers 5 to 7;
+-- Demand 3, of what `read` leaves: for a derived line the tree's words and settings, in order and with their values, up to the first of numbers 5 to 7 or a condition's no;
 -- and a wrong form exactly where there is no derivation. Every law here follows from the contract alone.
 -- Assumes nothing.
 use mathlib.Core.Path.{_≡_, refl, sym, ap, _∙_}
@@ -13,13 +13,13 @@ use lib.Dec.{leb}
 use lib.IntN.{ℤ}
 use lib.ListN.{length, drop, length-map}
 use lib.Seq.{sets, sets-eq}
-use Rattle.grammar.specs.Grammar.{Item, word, setting, comment, Line, line}
+use Rattle.grammar.specs.Grammar.{Item, word, setting, comment, Mark, unmarked, plain, conditional, Line, line}
 use Rattle.grammar.specs.Derivation.{strip, Derives}
 use Rattle.grammar.specs.Work.{work, depth}
-use Rattle.grammar.specs.Working.{Step, Took, end, stopped, took, Contents, after, value, entries, lineEntries, contents}
+use Rattle.grammar.specs.Working.{Step, skip, stop, Took, end, stopped, took, Contents, after, value, expression, entries, markStep, lineEntries, contents}
 use Rattle.grammar.proofs.Derivations.{decided}
 use Rattle.grammar.proofs.Lengths.{wordCount, settingCount, itemsOf, few}
-use Rattle.rules.specs.Meaning.{Entry, wordOf, settingOf, settingAt, parameterOf, arithmetic, stoppedBy, Said, Setting, words, settings}
+use Rattle.rules.specs.Meaning.{Entry, wordOf, settingOf, settingAt, parameterOf, runs, conditionOf, arithmetic, stoppedBy, Said, Setting, words, settings}
 use Rattle.rules.specs.Promise.{tooDeep}
 use Rattle.rules.specs.declared.Worked.{Worked}
 use Rattle.rules.specs.declared.Worked.the-variants.{Good, Bad}
@@ -29,7 +29,7 @@ use Rattle.reader.specs.Underived.{FirstWrong}
 use Rattle.reader.specs.Reading.{Spaces, zeros, stored, stopOf, counted, outcome, leftFor, leaves, Left, left, Reads}
 use Rattle.reader.specs.declared.line.Reading.{Reading}
 use Rattle.reader.specs.declared.line.Reading.the-variants.{Read as Whole, Stopped, Deep, Wrong, TooLong}
-use Rattle.reader.proofs.Stops.{Refusal, StopsSo, line-stops}
+use Rattle.reader.proofs.Stops.{Stopping, StopsSo, line-stops}
 use Rattle.reader.proofs.FirstWrong.{first-wrong-one}
 use Rattle.reader.proofs.Clash.{clash}
 
@@ -44,7 +44,7 @@ never-deep none w n k e = clash (cc)
 never-deep (some m) w n k e = clash (cc)
 
 -- the number that stopped the reading is the rules' one
-stopped-is : (e : Took Entry) (w n k : ℕ) {m : ℕ} → counted (stopOf e) w n k ≡ Stopped m → StopsSo e → (stoppedBy e ≡ m) × Refusal m
+stopped-is : (e : Took Entry) (w n k : ℕ) {m : ℕ} → counted (stopOf e) w n k ≡ Stopped m → StopsSo e → (stoppedBy e ≡ m) × Stopping m
 stopped-is end w n k h s = clash (cc)
 stopped-is (stopped x) w n k {m} h s = let d : x ≡ m = cc in (d, rw d at s)
 stopped-is (took x e) w n k h s = stopped-is e w n k h s
@@ -84,6 +84,20 @@ module _ (t : List ℤ) where
       go (Numbered n) (Good w) = record { words-more = λ e. omega arith; settings-more = λ e. omega arith }
       go (Numbered n) (Bad k) = record { words-more = λ e. omega arith; settings-more = λ e. omega arith }
 
+  -- a mark adds neither
+  mark-adds : (m : Mark) → Adds 0 0 (markStep (arithmetic t) m)
+  mark-adds unmarked = record { words-more = λ e. omega arith; settings-more = λ e. omega arith }
+  mark-adds (plain k) = record { words-more = λ e. omega arith; settings-more = λ e. omega arith }
+  mark-adds (conditional k x) = said (expression (arithmetic t) x)
+    where
+      go : (c : Bool) → Adds 0 0 (cond c skip (stop 100))
+      go true = record { words-more = λ e. omega arith; settings-more = λ e. omega arith }
+      go false = record { words-more = λ e. omega arith; settings-more = λ e. omega arith }
+
+      said : (a : Worked) → Adds 0 0 (conditionOf k a)
+      said (Bad j) = record { words-more = λ e. omega arith; settings-more = λ e. omega arith }
+      said (Good v) = go (runs k (v .0))
+
   counts : (is : List Item) → (length (words (entries (arithmetic t) is)) ≤ wordCount is) × (length (settings (entries (arithmetic t) is)) ≤ settingCount is)
   counts [] = (omega arith, omega arith)
   counts (word b v ∷ is) =
@@ -95,7 +109,9 @@ module _ (t : List ℤ) where
   counts (comment bs ∷ is) = counts is
 
   pub line-counts : (u : Line) → (length (words (lineEntries (arithmetic t) u)) ≤ wordCount (itemsOf u)) × (length (settings (lineEntries (arithmetic t) u)) ≤ settingCount (itemsOf u))
-  line-counts (line s n is) = counts is
+  line-counts (line m n is) =
+      let k = mark-adds m in
+      (omega (arith, counts is, k .words-more (entries (arithmetic t) is)), omega (arith, counts is, k .settings-more (entries (arithmetic t) is)))
 
 -- stored from the front, and past that what was there
 at-front : {X Y : Type 0} (f : X → Y) (xs : List X) (old : List Y) → length xs ≤ length old → sets old 0 (map f xs) ≡ map f xs ++ drop (length xs) old
@@ -157,13 +173,13 @@ module _ (l : List ℕ) (t : List ℤ) (old : Spaces) (r : Reading) (sp : Spaces
             amounts = at-front (λ (x : Setting). x .value) (settings (lineEntries (arithmetic t) u)) (old .amounts) (omega (arith, k, m));
           })
 
-    -- a line that is read nests no deeper than 24 and is stopped by none of numbers 5 to 7; the counts are those of its words and settings, and the work is its own
+    -- a line that is read nests no deeper than 24 and is stopped by no number; the counts are those of its words and settings, and the work is its own
     pub tree-read : (w n k : ℕ) → r ≡ Whole w n k →
         (tooDeep gives ≡ false) × (stoppedBy (lineEntries (arithmetic t) u) ≡ 0) × (length (words (lineEntries (arithmetic t) u)) ≡ w) × (length (settings (lineEntries (arithmetic t) u)) ≡ n) × (work u ≡ k)
     tree-read w n k e = ⊎-elim (λ z. clash (cc (z .1, e))) (λ z. let m = whole-is (lineEntries (arithmetic t) u) _ _ _ (sym (z .1) ∙ e) in (z .0, m .0, m .1, m .2, m .3)) (by-depth gives old is-answer)
 
-    -- and a line that is stopped nests no deeper either, and is stopped by the number that the rules name, one of 5 to 7
-    pub tree-stopped : (k : ℕ) → r ≡ Stopped k → (tooDeep gives ≡ false) × (stoppedBy (lineEntries (arithmetic t) u) ≡ k) × Refusal k
+    -- and a line that is stopped nests no deeper either, and is stopped by the number that the rules name, one of 5 to 7 or 100
+    pub tree-stopped : (k : ℕ) → r ≡ Stopped k → (tooDeep gives ≡ false) × (stoppedBy (lineEntries (arithmetic t) u) ≡ k) × Stopping k
     tree-stopped k e = ⊎-elim (λ z. clash (cc (z .1, e))) (λ z. let m = stopped-is (lineEntries (arithmetic t) u) _ _ _ (sym (z .1) ∙ e) (line-stops t u) in (z .0, m .0, m .1)) (by-depth gives old is-answer)
 
     tree-not-wrong : (q : ℕ) → ¬ (r ≡ Wrong q)

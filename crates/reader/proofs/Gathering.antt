@@ -19,13 +19,14 @@ use Rattle.rules.specs.declared.Value.{Value}
 use Rattle.reader.specs.Pass.{guarded}
 use Rattle.reader.specs.Places.{speltTo}
 use Rattle.reader.specs.Levels.{itemAt}
-use Rattle.reader.specs.Reading.{Spaces, spaces, zeros, storedFrom, stored, stopOf, counted, Left, left}
-use Rattle.reader.specs.Gather.{checked, ended, leftByItems, tidied}
+use Rattle.reader.specs.Reading.{Spaces, spaces, zeros, stopOf, counted, Left, left}
+use Rattle.reader.specs.Gather.{checked, ended, leftFrom, leftStopped, leftDeep, leftAs, leftAfter, tidied}
+use Rattle.reader.specs.declared.mark.Begun.{Begun}
 use Rattle.reader.specs.declared.spelling.Spelt.the-variants.{To, Not}
 use Rattle.reader.specs.declared.items.Item.the-variants.{Wrong, End}
 use Rattle.reader.specs.declared.line.Checked.the-variants.{Right, Wrong as Broken}
 use Rattle.reader.specs.declared.line.Reading.{Reading}
-use Rattle.reader.specs.declared.line.Reading.the-variants.{Read as Whole, Stopped, Deep, Wrong as NoForm}
+use Rattle.reader.specs.declared.line.Reading.the-variants.{Read as Whole, Deep, Wrong as NoForm}
 use Rattle.reader.proofs.Evaluating.{ends-is, not-is}
 use Rattle.reader.proofs.Levels.{wide-fits, wide-over}
 use Rattle.reader.proofs.Passing.{Past, Taken, Deeper, at-wrong, past-end, past-on, taken-weight, items-on, items-broken}
@@ -61,52 +62,30 @@ module _ {s : List ℕ} {at i : ℕ} (q : Checking s at i) where
   pub check-end : length s ≤ i → Right ≡ checked (itemsT s at)
   check-end l = ap (λ (m : Placed (List Item)). checked m) (sym (items-none s i l)) ∙ q .same
 
--- ---- what is left, once so many words and settings are stored
-
 module _ (t : List ℤ) where
-  -- none of those read was refused, and none nests too deep
-  abbrev leftFrom : ℕ → ℕ → ℕ → Spaces → Placed (List Item) → Left
-  leftFrom w n k sp (wrong p) = left (NoForm p) zeros
-  leftFrom w n k sp (found is p) =
-      cond (ltb 24 (itemsDepth is)) (left Deep zeros)
-      (left (counted (stopOf (entries (guarded t) is)) (w + length (words (entries (guarded t) is))) (n + length (settings (entries (guarded t) is))) (k + itemsWork is)) (storedFrom w n (entries (guarded t) is) sp))
-
-  -- one was refused with a number
-  abbrev leftStopped : ℕ → Spaces → Placed (List Item) → Left
-  leftStopped number sp (wrong p) = left (NoForm p) zeros
-  leftStopped number sp (found is p) = cond (ltb 24 (itemsDepth is)) (left Deep zeros) (left (Stopped number) sp)
-
-  -- one nests too deep
-  abbrev leftDeep : Placed (List Item) → Left
-  leftDeep (wrong p) = left (NoForm p) zeros
-  leftDeep (found is p) = left Deep zeros
-
-  abbrev leftAs : Bool → Bool → ℕ → ℕ → ℕ → ℕ → Spaces → Placed (List Item) → Left
-  leftAs deep stopped number w n k sp m = cond deep (leftDeep m) (cond stopped (leftStopped number sp m) (leftFrom w n k sp m))
-
   -- ---- an item more
 
-  deep-on : (j : Item) (m : Placed (List Item)) → leftDeep m ≡ leftDeep (mapP (λ l. j ∷ l) m)
+  deep-on : (j : Item) (m : Placed (List Item)) → leftDeep t m ≡ leftDeep t (mapP (λ l. j ∷ l) m)
   deep-on j (wrong p) = refl
   deep-on j (found is p) = refl
 
   module _ (j : Item) (f : ltb 24 (itemDepth j) ≡ false) where
-    stopped-on : (number : ℕ) (sp : Spaces) (m : Placed (List Item)) → leftStopped number sp m ≡ leftStopped number sp (mapP (λ l. j ∷ l) m)
+    stopped-on : (number : ℕ) (sp : Spaces) (m : Placed (List Item)) → leftStopped t number sp m ≡ leftStopped t number sp (mapP (λ l. j ∷ l) m)
     stopped-on number sp (wrong p) = refl
     stopped-on number sp (found is p) = rw (wide-fits 24 (itemDepth j) (itemsDepth is) f)
 
-    stop-here : (w n k number : ℕ) (sp : Spaces) (m : Placed (List Item)) → stepOf (guarded t) j ≡ stop number → leftStopped number sp m ≡ leftFrom w n k sp (mapP (λ l. j ∷ l) m)
+    stop-here : (w n k number : ℕ) (sp : Spaces) (m : Placed (List Item)) → stepOf (guarded t) j ≡ stop number → leftStopped t number sp m ≡ leftFrom t w n k sp (mapP (λ l. j ∷ l) m)
     stop-here w n k number sp (wrong p) g = refl
     stop-here w n k number sp (found is p) g = rw (wide-fits 24 (itemDepth j) (itemsDepth is) f, g)
 
-    from-skip : (w n k : ℕ) (sp : Spaces) (m : Placed (List Item)) → stepOf (guarded t) j ≡ skip → itemWork j ≡ 0 → leftFrom w n k sp m ≡ leftFrom w n k sp (mapP (λ l. j ∷ l) m)
+    from-skip : (w n k : ℕ) (sp : Spaces) (m : Placed (List Item)) → stepOf (guarded t) j ≡ skip → itemWork j ≡ 0 → leftFrom t w n k sp m ≡ leftFrom t w n k sp (mapP (λ l. j ∷ l) m)
     from-skip w n k sp (wrong p) g z = refl
     from-skip w n k sp (found is p) g z =
         let e : k + itemsWork is ≡ k + (itemWork j + itemsWork is) = omega arith in
         rw (wide-fits 24 (itemDepth j) (itemsDepth is) f, g, e)
 
     from-word : (w n k y b : ℕ) (v : ℤ) (sp : Spaces) (m : Placed (List Item)) → stepOf (guarded t) j ≡ give (wordIs b v) → itemWork j ≡ y →
-        leftFrom (w + 1) n (k + y) (spaces (set (sp .letters) w b) (set (sp .values) w v) (sp .numbers) (sp .amounts)) m ≡ leftFrom w n k sp (mapP (λ l. j ∷ l) m)
+        leftFrom t (w + 1) n (k + y) (spaces (set (sp .letters) w b) (set (sp .values) w v) (sp .numbers) (sp .amounts)) m ≡ leftFrom t w n k sp (mapP (λ l. j ∷ l) m)
     from-word w n k y b v sp (wrong p) g z = refl
     from-word w n k y b v sp (found is p) g z =
         let e = entries (guarded t) is in
@@ -117,7 +96,7 @@ module _ (t : List ℤ) where
         (ap₂ left (ap₂ (λ (x y : ℕ). counted (stopOf e) x (n + length (settings e)) y) h i) (rw add-one)))
 
     from-setting : (w n k y b : ℕ) (v : ℤ) (sp : Spaces) (m : Placed (List Item)) → stepOf (guarded t) j ≡ give (settingIs b v) → itemWork j ≡ y →
-        leftFrom w (n + 1) (k + y) (spaces (sp .letters) (sp .values) (set (sp .numbers) n b) (set (sp .amounts) n v)) m ≡ leftFrom w n k sp (mapP (λ l. j ∷ l) m)
+        leftFrom t w (n + 1) (k + y) (spaces (sp .letters) (sp .values) (set (sp .numbers) n b) (set (sp .amounts) n v)) m ≡ leftFrom t w n k sp (mapP (λ l. j ∷ l) m)
     from-setting w n k y b v sp (wrong p) g z = refl
     from-setting w n k y b v sp (found is p) g z =
         let e = entries (guarded t) is in
@@ -128,38 +107,30 @@ module _ (t : List ℤ) where
         (ap₂ left (ap₂ (λ (x y : ℕ). counted (stopOf e) (w + length (words e)) x y) h i) (rw add-one)))
 
   module _ (j : Item) (o : ltb 24 (itemDepth j) ≡ true) where
-    over-from : (w n k : ℕ) (sp : Spaces) (m : Placed (List Item)) → leftDeep m ≡ leftFrom w n k sp (mapP (λ l. j ∷ l) m)
+    over-from : (w n k : ℕ) (sp : Spaces) (m : Placed (List Item)) → leftDeep t m ≡ leftFrom t w n k sp (mapP (λ l. j ∷ l) m)
     over-from w n k sp (wrong p) = refl
     over-from w n k sp (found is p) = rw (wide-over 24 (itemDepth j) (itemsDepth is) o)
 
-    over-stopped : (number : ℕ) (sp : Spaces) (m : Placed (List Item)) → leftDeep m ≡ leftStopped number sp (mapP (λ l. j ∷ l) m)
+    over-stopped : (number : ℕ) (sp : Spaces) (m : Placed (List Item)) → leftDeep t m ≡ leftStopped t number sp (mapP (λ l. j ∷ l) m)
     over-stopped number sp (wrong p) = refl
     over-stopped number sp (found is p) = rw (wide-over 24 (itemDepth j) (itemsDepth is) o)
 
-from-none : (t : List ℤ) (m : Placed (List Item)) (sp : Spaces) → leftFrom t 0 0 0 sp m ≡ leftByItems t m sp
-from-none t (wrong p) sp = refl
-from-none t (found is p) sp =
-    let e = entries (guarded t) is in
-    let h : 0 + length (words e) ≡ length (words e) = omega arith in
-    let k : 0 + length (settings e) ≡ length (settings e) = omega arith in
-    let i : 0 + itemsWork is ≡ itemsWork is = omega arith in
-    rw (h, k, i)
-
 -- ---- the loop that stores
 
--- the items before i are read: w words and n settings of them are stored, and k work was done
-pub record Gathered (t : List ℤ) (s : List ℕ) (at : ℕ) (old sp : Spaces) (w n k number i : ℕ) (deep stopped : Bool) : Type 0 where
+-- the items before i are read: w words and n settings of them are stored, k work was done, and those from i on leave what the whole does
+pub record Gathered (t : List ℤ) (s : List ℕ) (whole : Left) (sp : Spaces) (w n k number i : ℕ) (deep stopped : Bool) : Type 0 where
   pub within : i ≤ length s
   pub few : 2 * w + 4 * n ≤ i
   pub most : k ≤ i
-  pub same : leftAs t deep stopped number w n k sp (itemsT s i) ≡ leftByItems t (itemsT s at) old
+  pub same : leftAs t deep stopped number w n k sp (itemsT s i) ≡ whole
 
-pub gather-none : (t : List ℤ) (s : List ℕ) (at : ℕ) (old : Spaces) → at ≤ length s → Gathered t s at old old 0 0 0 0 at false false
-gather-none t s at old l = record { within = l; few = omega arith; most = omega arith; same = from-none t (itemsT s at) old }
+pub gather-none : (t : List ℤ) (s : List ℕ) (at : ℕ) (old : Spaces) (b : Begun) → at ≤ length s → b .work ≤ at →
+    Gathered t s (leftAfter t b old (itemsT s at)) old 0 0 (b .work) (b .number) at (b .deep) (b .stopped)
+gather-none t s at old b l h = record { within = l; few = omega arith; most = h; same = refl }
 
-module _ {t : List ℤ} {s : List ℕ} {at : ℕ} {old sp : Spaces} {w n k number i : ℕ} {deep stopped : Bool} (q : Gathered t s at old sp w n k number i deep stopped) where
+module _ {t : List ℤ} {s : List ℕ} {whole : Left} {sp : Spaces} {w n k number i : ℕ} {deep stopped : Bool} (q : Gathered t s whole sp w n k number i deep stopped) where
   -- past an item
-  on : {j : Item} {p : ℕ} → Past s i j p → leftAs t deep stopped number w n k sp (mapP (λ l. j ∷ l) (itemsT s p)) ≡ leftByItems t (itemsT s at) old
+  on : {j : Item} {p : ℕ} → Past s i j p → leftAs t deep stopped number w n k sp (mapP (λ l. j ∷ l) (itemsT s p)) ≡ whole
   on z = ap (λ (m : Placed (List Item)). leftAs t deep stopped number w n k sp m) (sym (items-on z)) ∙ q .same
 
   module _ {b : ℕ} {v : Value} {y p : ℕ} (z : Taken t s i (give (wordIs b (v .0))) y p) where
@@ -167,7 +138,7 @@ module _ {t : List ℤ} {s : List ℕ} {at : ℕ} {old sp : Spaces} {w n k numbe
     room-for-word l = omega (arith, q .few, taken-weight z, past-on (z .past))
 
     pub gather-word : {letters : List ℕ} {values : List ℤ} → letters ≡ set (sp .letters) w b → values ≡ set (sp .values) w (v .0) → stopped ≡ false →
-        Gathered t s at old (spaces letters values (sp .numbers) (sp .amounts)) (w + 1) n (k + y) number p deep stopped
+        Gathered t s whole (spaces letters values (sp .numbers) (sp .amounts)) (w + 1) n (k + y) number p deep stopped
     gather-word {letters} {values} el ev e = record {
       within = past-on (z .past) .1;
       few = omega (arith, q .few, taken-weight z);
@@ -183,7 +154,7 @@ module _ {t : List ℤ} {s : List ℕ} {at : ℕ} {old sp : Spaces} {w n k numbe
     room-for-setting l = omega (arith, q .few, taken-weight z, past-on (z .past))
 
     pub gather-setting : {numbers : List ℕ} {amounts : List ℤ} → numbers ≡ set (sp .numbers) n b → amounts ≡ set (sp .amounts) n (v .0) → stopped ≡ false →
-        Gathered t s at old (spaces (sp .letters) (sp .values) numbers amounts) w (n + 1) (k + y) number p deep stopped
+        Gathered t s whole (spaces (sp .letters) (sp .values) numbers amounts) w (n + 1) (k + y) number p deep stopped
     gather-setting {numbers} {amounts} en ea e = record {
       within = past-on (z .past) .1;
       few = omega (arith, q .few, taken-weight z);
@@ -199,7 +170,7 @@ module _ {t : List ℤ} {s : List ℕ} {at : ℕ} {old sp : Spaces} {w n k numbe
   room-for-work z = omega (arith, q .most, taken-weight z, past-on (z .past))
 
   -- past an item of right form that is not stored, since one before it was refused
-  pub gather-past : {st : Step Entry} {y p : ℕ} → Taken t s i st y p → stopped ≡ true → Gathered t s at old sp w n k number p deep stopped
+  pub gather-past : {st : Step Entry} {y p : ℕ} → Taken t s i st y p → stopped ≡ true → Gathered t s whole sp w n k number p deep stopped
   gather-past {st} {y} {p} z e = record {
     within = past-on (z .past) .1;
     few = omega (arith, q .few, past-on (z .past));
@@ -208,7 +179,7 @@ module _ {t : List ℤ} {s : List ℕ} {at : ℕ} {old sp : Spaces} {w n k numbe
   }
 
   -- past a comment
-  pub gather-comment : {p : ℕ} → Taken t s i skip 0 p → Gathered t s at old sp w n k number p deep stopped
+  pub gather-comment : {p : ℕ} → Taken t s i skip 0 p → Gathered t s whole sp w n k number p deep stopped
   gather-comment {p} z = record {
     within = past-on (z .past) .1;
     few = omega (arith, q .few, past-on (z .past));
@@ -220,7 +191,7 @@ module _ {t : List ℤ} {s : List ℕ} {at : ℕ} {old sp : Spaces} {w n k numbe
   }
 
   -- past one that is refused: the first that is counts
-  pub gather-stop : {m y p first : ℕ} → Taken t s i (stop m) y p → first ≡ cond stopped number m → Gathered t s at old sp w n k first p deep true
+  pub gather-stop : {m y p first : ℕ} → Taken t s i (stop m) y p → first ≡ cond stopped number m → Gathered t s whole sp w n k first p deep true
   gather-stop {m} {y} {p} {first} z e = record {
     within = past-on (z .past) .1;
     few = omega (arith, q .few, past-on (z .past));
@@ -233,11 +204,11 @@ module _ {t : List ℤ} {s : List ℕ} {at : ℕ} {old sp : Spaces} {w n k numbe
       go false = ap₂ (λ (x u : Left). cond deep x u) (deep-on t (z .item) (itemsT s p)) (stop-here t (z .item) (z .fits) w n k m sp (itemsT s p) (z .gives))
 
   -- the same counts by another name
-  pub recounted : {x y : ℕ} → x ≡ w → y ≡ n → Gathered t s at old sp x y k number i deep stopped
+  pub recounted : {x y : ℕ} → x ≡ w → y ≡ n → Gathered t s whole sp x y k number i deep stopped
   recounted e d = rw (e, d) q
 
   -- past one that nests too deep
-  pub gather-deep : {p : ℕ} → Deeper s i p → Gathered t s at old sp w n k number p true stopped
+  pub gather-deep : {p : ℕ} → Deeper s i p → Gathered t s whole sp w n k number p true stopped
   gather-deep {p} z = record {
     within = past-on (z .past) .1;
     few = omega (arith, q .few, past-on (z .past));
@@ -251,7 +222,7 @@ module _ {t : List ℤ} {s : List ℕ} {at : ℕ} {old sp : Spaces} {w n k numbe
       go false false = over-from t (z .item) (z .over) w n k sp (itemsT s p)
 
   -- the ways out
-  pub gather-wrong : {p : ℕ} → Wrong p ≡ itemAt t s i → tidied (NoForm p) sp ≡ leftByItems t (itemsT s at) old
+  pub gather-wrong : {p : ℕ} → Wrong p ≡ itemAt t s i → tidied (NoForm p) sp ≡ whole
   gather-wrong {p} e =
       let z = at-wrong t s i e in
       go deep stopped ∙ ap (λ (m : Placed (List Item)). leftAs t deep stopped number w n k sp m) (sym (items-broken s i (z .0) (z .1))) ∙ q .same
@@ -261,7 +232,7 @@ module _ {t : List ℤ} {s : List ℕ} {at : ℕ} {old sp : Spaces} {w n k numbe
       go false true = refl
       go false false = refl
 
-  pub gather-end : End ≡ itemAt t s i → {r : Reading} → r ≡ ended deep stopped number w n k → tidied r sp ≡ leftByItems t (itemsT s at) old
+  pub gather-end : End ≡ itemAt t s i → {r : Reading} → r ≡ ended deep stopped number w n k → tidied r sp ≡ whole
   gather-end e {r} d =
       ap (λ (x : Reading). tidied x sp) d
       ∙ go deep stopped

@@ -5,9 +5,9 @@ use mathlib.Core.Path.{_≡_, refl, ap, ap₂, _∙_}
 use mathlib.Core.Bool.{Bool, true, false, cond}
 use mathlib.Core.List.{List, [], _∷_}
 use lib.IntN.{ℤ}
-use Rattle.grammar.specs.Grammar.{Value, number, parameter, applied, grouped, Expr, expr, Rest, done, more, Item, word, setting, comment, Line, line}
-use Rattle.grammar.specs.Working.{Arithmetic, high, Pair, pair, Sum, push, terms, total, inOrder, value, expression, pairs, stepOf, after, entries, lineEntries}
-use Rattle.rules.specs.Meaning.{Entry, arithmetic, wordOf, settingOf}
+use Rattle.grammar.specs.Grammar.{Value, number, parameter, applied, grouped, Expr, expr, Rest, done, more, Item, word, setting, comment, Mark, unmarked, plain, conditional, Line, line}
+use Rattle.grammar.specs.Working.{Arithmetic, high, Pair, pair, Sum, push, terms, total, inOrder, value, expression, pairs, stepOf, after, entries, markStep, lineEntries}
+use Rattle.rules.specs.Meaning.{Entry, arithmetic, wordOf, settingOf, conditionOf}
 use Rattle.rules.specs.declared.Worked.{Worked}
 use Rattle.arithmetic.specs.Guarded.{work}
 use Rattle.arithmetic.proofs.Kept.{Kept, number-kept, work-kept, apply-kept, lookup-kept, work-is, apply-is, lookup-is}
@@ -101,5 +101,10 @@ module _ (t : List ℤ) where
   guarded-items [] = refl
   guarded-items (i ∷ is) = ap₂ after (step-same i) (guarded-items is)
 
+  mark-same : (m : Mark) → markStep G m ≡ markStep A m
+  mark-same unmarked = refl
+  mark-same (plain k) = refl
+  mark-same (conditional k e) = ap (conditionOf k) (expression-same e)
+
   pub guarded-line : (l : Line) → lineEntries G l ≡ lineEntries A l
-  guarded-line (line s n is) = guarded-items is
+  guarded-line (line m n is) = ap₂ after (mark-same m) (guarded-items is)

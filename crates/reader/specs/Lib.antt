@@ -2,6 +2,7 @@ pub mod Pass
 pub mod Places
 pub mod Passage
 pub mod Levels
+pub mod Marks
 pub mod Cursor
 pub mod Underived
 pub mod Reading

@@ -7,7 +7,7 @@ use lib.IntN.{ℤ}
 use Rattle.grammar.specs.Working.{Arithmetic, high}
 use Rattle.grammar.proofs.Terms.{Pass, byLevels}
 use Rattle.grammar.specs.declared.Op.{Op}
-use Rattle.rules.specs.Meaning.{Entry, numberOf, wordOf, settingOf}
+use Rattle.rules.specs.Meaning.{Entry, numberOf, wordOf, settingOf, conditionOf}
 use Rattle.rules.specs.declared.Worked.{Worked}
 use Rattle.arithmetic.specs.Guarded.{work, apply, lookup}
 use Rattle.reader.specs.declared.terms.Pending.{Pending}
@@ -24,6 +24,7 @@ guarded table = record {
   work = work;
   wordOf = wordOf;
   settingOf = settingOf;
+  conditionOf = conditionOf;
 }
 
 -- an expression's first value

@@ -89,13 +89,8 @@ abbrev pub valued : Placed Worked → Valued
 valued (wrong p) = NoValue p
 valued (found a p) = Came a p
 
--- ---- comments, and the line's beginning
+-- ---- comments
 
 -- past the bytes that may stand inside a comment
 abbrev pub remarksEnd : List ℕ → ℕ → ℕ
 remarksEnd s at = at + length (takeWhile remark (drop at s))
-
--- past `/`
-abbrev pub slashEnd : List ℕ → ℕ
-slashEnd [] = 0
-slashEnd (b ∷ s) = cond (eqb (byte "/") b) 1 0

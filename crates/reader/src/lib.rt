@@ -5,6 +5,7 @@
 mod cursor;
 mod items;
 mod line;
+mod mark;
 mod numbers;
 mod passage;
 mod spelling;

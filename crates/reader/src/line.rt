@@ -6,12 +6,16 @@ ghost use lib.ListN.{length, set};
 ghost use Rattle.grammar.specs.Derivation.{ByForm};
 ghost use Rattle.grammar.proofs.Trees.{itemsT, labelT, lineT};
 ghost use Rattle.rules.specs.Promise.{panel};
-ghost use Rattle.reader.specs.Places.{speltTo, slashEnd};
-ghost use Rattle.reader.specs.Gather.{checked, ended, leftByItems, leftByLine, tidied};
+ghost use Rattle.reader.specs.Places.{speltTo};
+ghost use Rattle.reader.specs.Gather.{checked, ended, leftAfter, leftByLine, tidied};
 ghost use Rattle.reader.specs.Reading.{spaces, zeros, Reads};
 use super::cursor::item_from;
 use super::items::Item;
 use super::items::item_end;
+use super::mark::Begun;
+use super::mark::Marked;
+use super::mark::mark_at;
+use super::mark::mark_end;
 use super::numbers::digits_from;
 use super::spelling::Spelt;
 use rules::Value;
@@ -22,7 +26,8 @@ use text::prepare;
 pub enum Reading {
     // It is read: so many words and so many settings are stored, and so much work it was.
     Read(usize, usize, u64),
-    // Its form is right, but it is refused with this number, 5 to 7: the first in working order.
+    // Its form is right, but it is refused with this number, 5 to 7: the first in working order. Or its
+    // condition says no, and 100 says that it is skipped.
     Stopped(u8),
     // Its form is right, but some value of it nests deeper than 24; the lent spaces hold zeros.
     Deep,
@@ -37,16 +42,6 @@ pub enum Reading {
 enum Checked {
     Right,
     Wrong(usize),
-}
-
-// The place past `/`, where it stands first.
-fn slash_end(text: &[u8]) -> usize
-    ensures { λ r. ⌜ r ≡ slashEnd (now (text .entry)) ⌝ }
-{
-    if text.len() == 0 {
-        return 0;
-    }
-    if text[0] == b'/' { 1 } else { 0 }
 }
 
 // The place past N and its one to five digits, where N stands here.
@@ -142,27 +137,28 @@ fn ended(deep: bool, stopped: bool, number: u8, words: usize, settings: usize, w
     Reading::Read(words, settings, work)
 }
 
-// Reads the items from here on, and stores their words and settings up to the first that is refused.
+// Reads the items from here on, after what the mark left, and stores their words and settings up to the first that is refused.
 // The form of those after it, or after one that nests too deep, is read in the same loop, so that the
 // compiler puts the items' code into it.
 fn gather(
     text: &[u8],
     table: &[i64],
     at: usize,
+    begun: Begun,
     letters: &mut [u8; 128],
     values: &mut [i64; 128],
     numbers: &mut [usize; 64],
     amounts: &mut [i64; 64],
 ) -> Reading
-    requires { ⌜ (at ≤ length (now text)) × (length (now text) ≤ 256) ⌝ }
-    ensures { λ r. ⌜ tidied r (spaces (now (letters .exit)) (now (values .exit)) (now (numbers .exit)) (now (amounts .exit))) ≡ leftByItems (now (table .entry)) (itemsT (now (text .entry)) at) (spaces (now (letters .entry)) (now (values .entry)) (now (numbers .entry)) (now (amounts .entry))) ⌝ }
+    requires { ⌜ (at ≤ length (now text)) × (length (now text) ≤ 256) × (begun .work ≤ at) ⌝ }
+    ensures { λ r. ⌜ tidied r (spaces (now (letters .exit)) (now (values .exit)) (now (numbers .exit)) (now (amounts .exit))) ≡ leftAfter (now (table .entry)) begun (spaces (now (letters .entry)) (now (values .entry)) (now (numbers .entry)) (now (amounts .entry))) (itemsT (now (text .entry)) at) ⌝ }
 {
     let mut words: usize = 0;
     let mut settings: usize = 0;
-    let mut work: u64 = 0;
-    let mut deep = false;
-    let mut stopped = false;
-    let mut number: u8 = 0;
+    let mut work = begun.work;
+    let mut deep = begun.deep;
+    let mut stopped = begun.stopped;
+    let mut number = begun.number;
     let mut i = at;
     loop {
         match item_from(text, table, i) {
@@ -208,9 +204,12 @@ fn read_text(
     requires { ⌜ length (now text) ≤ 256 ⌝ }
     ensures { λ r. ⌜ tidied r (spaces (now (letters .exit)) (now (values .exit)) (now (numbers .exit)) (now (amounts .exit))) ≡ leftByLine (now (table .entry)) (lineT (now (text .entry))) (spaces (now (letters .entry)) (now (values .entry)) (now (numbers .entry)) (now (amounts .entry))) ⌝ }
 {
-    match label_end(text, slash_end(text)) {
-        Spelt::To(p) => gather(text, table, p, letters, values, numbers, amounts),
-        Spelt::Not(p) => Reading::Wrong(p),
+    match mark_at(text, table) {
+        Marked::Past(begun, p) => match label_end(text, p) {
+            Spelt::To(q) => gather(text, table, q, begun, letters, values, numbers, amounts),
+            Spelt::Not(q) => Reading::Wrong(q),
+        },
+        Marked::Wrong(p) => Reading::Wrong(p),
     }
 }
 
@@ -258,8 +257,11 @@ pub fn read(
 fn check_text(text: &[u8]) -> Checked
     ensures { λ r. ⌜ r ≡ checked (lineT (now (text .entry))) ⌝ }
 {
-    match label_end(text, slash_end(text)) {
-        Spelt::To(p) => check_from(text, p),
+    match mark_end(text) {
+        Spelt::To(p) => match label_end(text, p) {
+            Spelt::To(q) => check_from(text, q),
+            Spelt::Not(q) => Checked::Wrong(q),
+        },
         Spelt::Not(p) => Checked::Wrong(p),
     }
 }

@@ -9,7 +9,7 @@ use lib.ListN.{set, replicate}
 use lib.IntN.{ℤ, pos}
 use Rattle.grammar.specs.Bytes.{bytes}
 use Rattle.grammar.specs.Derivation.{strip, inside}
-use Rattle.grammar.proofs.Read.{valueOf, restOf, itemsOf}
+use Rattle.grammar.proofs.Read.{valueOf, restOf, exprOf, itemsOf}
 use Rattle.rules.specs.Numbers.{nearest, residue, near}
 use Rattle.rules.specs.Meaning.{ranged, decimal, written, numberOf, operation, function, parameterOf}
 use Rattle.rules.specs.Codes.{gGroup, mGroup, gCode, mCode, systemNumber}
@@ -19,7 +19,7 @@ use Rattle.rules.specs.Steps.{feedStep, speedStep, toolStep, changeStep,
 use Rattle.rules.specs.Arcs.{arcMove, planeAxes, centre, badArc}
 use Rattle.rules.specs.Commands.{commands}
 use Rattle.rules.specs.Refusals.{unserved, doubled, missing, idle, wrongWord, wrongMode, tooFar}
-use Rattle.rules.specs.Promise.{disorder, slashed, answerTo}
+use Rattle.rules.specs.Promise.{disorder, opens, plainMark, answerTo}
 use Rattle.rules.specs.declared.Length.{Length}
 use Rattle.rules.specs.declared.Record.{Record}
 use Rattle.rules.proofs.Rows.{Row, Kept, All, kept, neg, xyz, xyz0, holding, unset, zeros, room, begins, row, typed, switched, refuses, refusing, gives}
@@ -102,7 +102,7 @@ orderRows =
     ∷ []
 
 pub orders : All Kept orderRows
-unfolding strip inside valueOf restOf itemsOf nearest residue near ranged decimal written numberOf operation function parameterOf gGroup mGroup gCode mCode systemNumber gCodes mCodes blockOf moves converted inOrder fresh feedStep speedStep toolStep changeStep spindleStep coolantStep planeStep unitsStep systemStep distanceStep originStep offsetStep target motionStep stopStep ready left arcMove planeAxes centre badArc commands unserved doubled missing idle wrongWord wrongMode tooFar disorder slashed answerTo
+unfolding strip inside valueOf restOf exprOf itemsOf nearest residue near ranged decimal written numberOf operation function parameterOf gGroup mGroup gCode mCode systemNumber gCodes mCodes blockOf moves converted inOrder fresh feedStep speedStep toolStep changeStep spindleStep coolantStep planeStep unitsStep systemStep distanceStep originStep offsetStep target motionStep stopStep ready left arcMove planeAxes centre badArc commands unserved doubled missing idle wrongWord wrongMode tooFar disorder opens plainMark answerTo
 orders = kept orderRows refl
 
 -- ---- numbers 2 and 3, and the skip
@@ -132,7 +132,7 @@ formRows =
     ∷ "X1.23456 G" ∷ "X[1/0] Y" ∷ "G59.1." ∷ [])
 
 pub forms : All Kept formRows
-unfolding strip inside valueOf restOf itemsOf nearest residue near ranged decimal written numberOf operation function parameterOf gGroup mGroup gCode mCode systemNumber gCodes mCodes blockOf moves converted inOrder fresh feedStep speedStep toolStep changeStep spindleStep coolantStep planeStep unitsStep systemStep distanceStep originStep offsetStep target motionStep stopStep ready left arcMove planeAxes centre badArc commands unserved doubled missing idle wrongWord wrongMode tooFar disorder slashed answerTo
+unfolding strip inside valueOf restOf exprOf itemsOf nearest residue near ranged decimal written numberOf operation function parameterOf gGroup mGroup gCode mCode systemNumber gCodes mCodes blockOf moves converted inOrder fresh feedStep speedStep toolStep changeStep spindleStep coolantStep planeStep unitsStep systemStep distanceStep originStep offsetStep target motionStep stopStep ready left arcMove planeAxes centre badArc commands unserved doubled missing idle wrongWord wrongMode tooFar disorder opens plainMark answerTo
 forms = kept formRows refl
 
 -- ---- numbers 4 to 7, and what expressions come to
@@ -181,7 +181,7 @@ valueRows =
     ∷ []
 
 pub values : All Kept valueRows
-unfolding strip inside valueOf restOf itemsOf nearest residue near ranged decimal written numberOf operation function parameterOf gGroup mGroup gCode mCode systemNumber gCodes mCodes blockOf moves converted inOrder fresh feedStep speedStep toolStep changeStep spindleStep coolantStep planeStep unitsStep systemStep distanceStep originStep offsetStep target motionStep stopStep ready left arcMove planeAxes centre badArc commands unserved doubled missing idle wrongWord wrongMode tooFar disorder slashed answerTo
+unfolding strip inside valueOf restOf exprOf itemsOf nearest residue near ranged decimal written numberOf operation function parameterOf gGroup mGroup gCode mCode systemNumber gCodes mCodes blockOf moves converted inOrder fresh feedStep speedStep toolStep changeStep spindleStep coolantStep planeStep unitsStep systemStep distanceStep originStep offsetStep target motionStep stopStep ready left arcMove planeAxes centre badArc commands unserved doubled missing idle wrongWord wrongMode tooFar disorder opens plainMark answerTo
 values = kept valueRows refl
 
 -- ---- numbers 8 and 9
@@ -210,7 +210,7 @@ codeRows =
     ∷ []
 
 pub codes : All Kept codeRows
-unfolding strip inside valueOf restOf itemsOf nearest residue near ranged decimal written numberOf operation function parameterOf gGroup mGroup gCode mCode systemNumber gCodes mCodes blockOf moves converted inOrder fresh feedStep speedStep toolStep changeStep spindleStep coolantStep planeStep unitsStep systemStep distanceStep originStep offsetStep target motionStep stopStep ready left arcMove planeAxes centre badArc commands unserved doubled missing idle wrongWord wrongMode tooFar disorder slashed answerTo
+unfolding strip inside valueOf restOf exprOf itemsOf nearest residue near ranged decimal written numberOf operation function parameterOf gGroup mGroup gCode mCode systemNumber gCodes mCodes blockOf moves converted inOrder fresh feedStep speedStep toolStep changeStep spindleStep coolantStep planeStep unitsStep systemStep distanceStep originStep offsetStep target motionStep stopStep ready left arcMove planeAxes centre badArc commands unserved doubled missing idle wrongWord wrongMode tooFar disorder opens plainMark answerTo
 codes = kept codeRows refl
 
 -- ---- numbers 10 to 12
@@ -243,7 +243,7 @@ wordRows =
     ∷ []
 
 pub words : All Kept wordRows
-unfolding strip inside valueOf restOf itemsOf nearest residue near ranged decimal written numberOf operation function parameterOf gGroup mGroup gCode mCode systemNumber gCodes mCodes blockOf moves converted inOrder fresh feedStep speedStep toolStep changeStep spindleStep coolantStep planeStep unitsStep systemStep distanceStep originStep offsetStep target motionStep stopStep ready left arcMove planeAxes centre badArc commands unserved doubled missing idle wrongWord wrongMode tooFar disorder slashed answerTo
+unfolding strip inside valueOf restOf exprOf itemsOf nearest residue near ranged decimal written numberOf operation function parameterOf gGroup mGroup gCode mCode systemNumber gCodes mCodes blockOf moves converted inOrder fresh feedStep speedStep toolStep changeStep spindleStep coolantStep planeStep unitsStep systemStep distanceStep originStep offsetStep target motionStep stopStep ready left arcMove planeAxes centre badArc commands unserved doubled missing idle wrongWord wrongMode tooFar disorder opens plainMark answerTo
 words = kept wordRows refl
 
 -- ---- numbers 13 to 15
@@ -284,7 +284,7 @@ reachRows =
     ∷ []
 
 pub reaches : All Kept reachRows
-unfolding strip inside valueOf restOf itemsOf nearest residue near ranged decimal written numberOf operation function parameterOf gGroup mGroup gCode mCode systemNumber gCodes mCodes blockOf moves converted inOrder fresh feedStep speedStep toolStep changeStep spindleStep coolantStep planeStep unitsStep systemStep distanceStep originStep offsetStep target motionStep stopStep ready left arcMove planeAxes centre badArc commands unserved doubled missing idle wrongWord wrongMode tooFar disorder slashed answerTo
+unfolding strip inside valueOf restOf exprOf itemsOf nearest residue near ranged decimal written numberOf operation function parameterOf gGroup mGroup gCode mCode systemNumber gCodes mCodes blockOf moves converted inOrder fresh feedStep speedStep toolStep changeStep spindleStep coolantStep planeStep unitsStep systemStep distanceStep originStep offsetStep target motionStep stopStep ready left arcMove planeAxes centre badArc commands unserved doubled missing idle wrongWord wrongMode tooFar disorder opens plainMark answerTo
 reaches = kept reachRows refl
 
 -- ---- what an accepted line does
@@ -358,5 +358,5 @@ effectRows =
     ∷ []
 
 pub effects : All Kept effectRows
-unfolding strip inside valueOf restOf itemsOf nearest residue near ranged decimal written numberOf operation function parameterOf gGroup mGroup gCode mCode systemNumber gCodes mCodes blockOf moves converted inOrder fresh feedStep speedStep toolStep changeStep spindleStep coolantStep planeStep unitsStep systemStep distanceStep originStep offsetStep target motionStep stopStep ready left arcMove planeAxes centre badArc commands unserved doubled missing idle wrongWord wrongMode tooFar disorder slashed answerTo
+unfolding strip inside valueOf restOf exprOf itemsOf nearest residue near ranged decimal written numberOf operation function parameterOf gGroup mGroup gCode mCode systemNumber gCodes mCodes blockOf moves converted inOrder fresh feedStep speedStep toolStep changeStep spindleStep coolantStep planeStep unitsStep systemStep distanceStep originStep offsetStep target motionStep stopStep ready left arcMove planeAxes centre badArc commands unserved doubled missing idle wrongWord wrongMode tooFar disorder opens plainMark answerTo
 effects = kept effectRows refl

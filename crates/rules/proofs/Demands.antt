@@ -30,7 +30,7 @@ use Rattle.rules.specs.Block.{blockOf}
 use Rattle.rules.specs.Steps.{ready}
 use Rattle.rules.specs.Commands.{commands}
 use Rattle.rules.specs.Refusals.{Case, _when_, first, refusals}
-use Rattle.rules.specs.Promise.{After, Right, answer, answerTo, leaving, accepted, byNumber, numbers, underived, taken, answerOf, numberOf, countOf, disorder, slashed, tooDeep}
+use Rattle.rules.specs.Promise.{After, Right, answer, answerTo, leaving, accepted, byNumber, numbers, underived, taken, answerOf, numberOf, countOf, disorder, unread, tooDeep}
 use Rattle.rules.specs.declared.Worked.{Worked}
 use Rattle.rules.specs.declared.Block.{Block}
 use Rattle.rules.specs.declared.Record.{Record}
@@ -96,7 +96,7 @@ lacking k ((n when false) ∷ cs) t h = lacking k cs (and-right (not (eqb n k)) 
 -- the numbers after 3
 abbrev later : Contents Entry → Block → Record → ℕ → List Case
 later c b m room =
-    (16 when tooDeep c) ∷ (4 when meets (c .entries) 4) ∷ (5 when meets (c .entries) 5) ∷ (6 when meets (c .entries) 6) ∷ (7 when meets (c .entries) 7) ∷ refusals (words (c .entries)) b m room
+    (16 when tooDeep c) ∷ (100 when meets (c .entries) 100) ∷ (4 when meets (c .entries) 4) ∷ (5 when meets (c .entries) 5) ∷ (6 when meets (c .entries) 6) ∷ (7 when meets (c .entries) 7) ∷ refusals (words (c .entries)) b m room
 
 -- ---- the model reader and the one pass
 
@@ -152,7 +152,7 @@ module _ (line : List ℕ) (switch : Bool) (r : Record) (table out : List ℤ) w
       record { byTree = λ t d. p .byTree t d ∙ ap (λ (c : Contents Entry). to (some c)) (line-gathered (arithmetic table) t); byNone = p .byNone }
 
   -- where 1, 2 and the skip do not apply
-  module _ (ordered : disorder r table ≡ false) (short : length line ≤ 256) (read : (switch && slashed line) ≡ false) where
+  module _ (ordered : disorder r table ≡ false) (short : length line ≤ 256) (read : unread switch line ≡ false) where
     answer-3 : answerTo none line switch r table out ≡ leaving (Refused 3) r table out
     unfolding answerTo
     answer-3 = rw (ordered, le-ltb 256 (length line) short, read)

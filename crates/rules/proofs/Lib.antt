@@ -19,3 +19,5 @@ pub mod Nearest
 pub mod Residue
 pub mod Signs
 pub mod WorkCases
+pub mod ConditionCases
+pub mod Marks

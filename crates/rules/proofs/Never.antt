@@ -1,16 +1,17 @@
 -- Number 4 "is kept in the list and shown never to occur" (`never-4`).
 -- Assumes nothing.
-use mathlib.Core.Path.{_≡_, ap, _∙_, sym}
+use mathlib.Core.Path.{_≡_, ap, _∙_, sym, subst}
 use mathlib.Core.Bool.{Bool}
 use mathlib.Core.List.{List}
+use mathlib.Core.Logic.{⊎-elim}
 use mathlib.Core.Option.{Option, none, some}
 use Prim.Native.Nat.{ℕ}
 use native.Mathlib.Omega.{arith}
 use lib.Dec.{T, eqb→eq}
 use lib.IntN.{ℤ}
-use Rattle.grammar.specs.Grammar.{Line, line as tree}
+use Rattle.grammar.specs.Grammar.{Line}
 use Rattle.grammar.specs.Derivation.{strip}
-use Rattle.grammar.specs.Working.{Took, end, stopped, took, entries}
+use Rattle.grammar.specs.Working.{Took, end, stopped, took, lineEntries}
 use Rattle.grammar.proofs.Read.{parse}
 use Rattle.rules.specs.Meaning.{Entry, wordIs, settingIs, arithmetic, reading, meets, words}
 use Rattle.rules.specs.Block.{blockOf}
@@ -19,7 +20,7 @@ use Rattle.rules.specs.Promise.{After, Right, answerTo, taken, numberOf}
 use Rattle.rules.specs.declared.Record.{Record}
 use Rattle.rules.proofs.Demands.{by-model, number-is}
 use Rattle.rules.proofs.Told.{cases, given-only}
-use Rattle.rules.proofs.Sound.{SoundTook, entries-sound}
+use Rattle.rules.proofs.Sound.{SoundTook, line-sound}
 
 unmet : (e : Took Entry) → SoundTook e → T (meets e 4) → ⊥
 unmet end s t = t
@@ -29,7 +30,7 @@ unmet (took (settingIs n v) e) s t = unmet e s t
 
 not-read : (table : List ℤ) (f : Option Line) → T (meets (taken (reading table f) .entries) 4) → ⊥
 not-read table none t = t
-not-read table (some (tree s n is)) t = unmet (entries (arithmetic table) is) (entries-sound table is) t
+not-read table (some l) t = ⊎-elim (λ e. subst (λ (x : Took Entry). T (meets x 4)) e t) (λ s. unmet (lineEntries (arithmetic table) l) s t) (line-sound table l)
 
 -- nothing that the promise allows carries number 4
 pub never-4 : (line : List ℕ) (switch : Bool) (r : Record) (table out : List ℤ) {a : After} → Right line switch r table out a → numberOf (a .outcome .answer) ≡ 4 → ⊥
@@ -39,4 +40,4 @@ never-4 line switch r table out p h =
     let e = taken (reading table f) in
     let cs = cases line switch r table out f in
     let n : first cs ≡ 4 = sym (number-is (first cs) e (blockOf (words (e .entries))) r table out) ∙ (sym (ap (λ (x : After). numberOf (x .outcome .answer)) (by-model line switch r table out p)) ∙ h) in
-    not-read table f (given-only 4 cs tt n .1)
+    not-read table f (given-only 100 4 cs tt (λ e. omega arith) n .1)

@@ -6,7 +6,7 @@ use mathlib.Core.List.{List, [], _∷_, _++_}
 use lib.ListN.{set, replicate}
 use lib.IntN.{pos}
 use Rattle.grammar.specs.Derivation.{strip, inside}
-use Rattle.grammar.proofs.Read.{valueOf, restOf, itemsOf}
+use Rattle.grammar.proofs.Read.{valueOf, restOf, exprOf, itemsOf}
 use Rattle.rules.specs.Numbers.{nearest, residue, near}
 use Rattle.rules.specs.Meaning.{ranged, decimal, written, numberOf, operation, function, parameterOf}
 use Rattle.rules.specs.Codes.{gGroup, mGroup, gCode, mCode, systemNumber}
@@ -16,7 +16,7 @@ use Rattle.rules.specs.Steps.{feedStep, speedStep, toolStep, changeStep,
 use Rattle.rules.specs.Arcs.{arcMove, planeAxes, centre, badArc}
 use Rattle.rules.specs.Commands.{commands}
 use Rattle.rules.specs.Refusals.{unserved, doubled, missing, idle, wrongWord, wrongMode, tooFar}
-use Rattle.rules.specs.Promise.{disorder, slashed, answerTo}
+use Rattle.rules.specs.Promise.{disorder, opens, plainMark, answerTo}
 use Rattle.rules.specs.declared.Length.{Length}
 use Rattle.rules.specs.declared.Record.{Record}
 use Rattle.rules.proofs.Rows.{Row, Kept, All, kept, kept-row, neg, xyz, xyz0, holding, unset, zeros, room, begins, row, typed, refuses, gives, feedAt, spins, rapidTo, feedsTo, arcTo}
@@ -63,7 +63,7 @@ pageRows =
     ∷ []
 
 pub page : All Kept pageRows
-unfolding strip inside valueOf restOf itemsOf nearest residue near ranged decimal written numberOf operation function parameterOf gGroup mGroup gCode mCode systemNumber gCodes mCodes blockOf moves converted inOrder fresh feedStep speedStep toolStep changeStep spindleStep coolantStep planeStep unitsStep systemStep distanceStep originStep offsetStep target motionStep stopStep ready left arcMove planeAxes centre badArc commands unserved doubled missing idle wrongWord wrongMode tooFar disorder slashed answerTo
+unfolding strip inside valueOf restOf exprOf itemsOf nearest residue near ranged decimal written numberOf operation function parameterOf gGroup mGroup gCode mCode systemNumber gCodes mCodes blockOf moves converted inOrder fresh feedStep speedStep toolStep changeStep spindleStep coolantStep planeStep unitsStep systemStep distanceStep originStep offsetStep target motionStep stopStep ready left arcMove planeAxes centre badArc commands unserved doubled missing idle wrongWord wrongMode tooFar disorder opens plainMark answerTo
 page = kept pageRows refl
 
 -- ---- "Errors that look reasonable"
@@ -78,7 +78,7 @@ entryTable = row "G0 #3=15 X#3" fresh (set zeros 3 (pos 10000)) room
     0 1 (holding (xyz (pos 100000) (pos 0) (pos 0)) unset xyz0 0 170 900 210 540 (pos 0) (pos 0) 0 0 0) (set zeros 3 (pos 150000)) (begins (rapidTo (pos 100000) (pos 0) (pos 0)))
 
 pub entry-table : Kept entryTable
-unfolding strip inside valueOf restOf itemsOf nearest residue near ranged decimal written numberOf operation function parameterOf gGroup mGroup gCode mCode systemNumber gCodes mCodes blockOf moves converted inOrder fresh feedStep speedStep toolStep changeStep spindleStep coolantStep planeStep unitsStep systemStep distanceStep originStep offsetStep target motionStep stopStep ready left arcMove planeAxes centre badArc commands unserved doubled missing idle wrongWord wrongMode tooFar disorder slashed answerTo
+unfolding strip inside valueOf restOf exprOf itemsOf nearest residue near ranged decimal written numberOf operation function parameterOf gGroup mGroup gCode mCode systemNumber gCodes mCodes blockOf moves converted inOrder fresh feedStep speedStep toolStep changeStep spindleStep coolantStep planeStep unitsStep systemStep distanceStep originStep offsetStep target motionStep stopStep ready left arcMove planeAxes centre badArc commands unserved doubled missing idle wrongWord wrongMode tooFar disorder opens plainMark answerTo
 entry-table = kept-row entryTable refl
 
 -- "cutting G59.1 to 59"
@@ -87,7 +87,7 @@ ownOrigin = gives "G59.1 G0 X0" (holding xyz0 twoOrigins xyz0 800 170 900 210 54
     (holding (xyz (pos 700) (pos 0) (pos 0)) twoOrigins xyz0 0 170 900 210 591 (pos 0) (pos 0) 0 0 0) (rapidTo (pos 700) (pos 0) (pos 0) ∷ [])
 
 pub own-origin : Kept ownOrigin
-unfolding strip inside valueOf restOf itemsOf nearest residue near ranged decimal written numberOf operation function parameterOf gGroup mGroup gCode mCode systemNumber gCodes mCodes blockOf moves converted inOrder fresh feedStep speedStep toolStep changeStep spindleStep coolantStep planeStep unitsStep systemStep distanceStep originStep offsetStep target motionStep stopStep ready left arcMove planeAxes centre badArc commands unserved doubled missing idle wrongWord wrongMode tooFar disorder slashed answerTo
+unfolding strip inside valueOf restOf exprOf itemsOf nearest residue near ranged decimal written numberOf operation function parameterOf gGroup mGroup gCode mCode systemNumber gCodes mCodes blockOf moves converted inOrder fresh feedStep speedStep toolStep changeStep spindleStep coolantStep planeStep unitsStep systemStep distanceStep originStep offsetStep target motionStep stopStep ready left arcMove planeAxes centre badArc commands unserved doubled missing idle wrongWord wrongMode tooFar disorder opens plainMark answerTo
 own-origin = kept-row ownOrigin refl
 
 -- "taking F in units the same line selects"
@@ -95,7 +95,7 @@ abbrev pub unitsBefore : Row
 unitsBefore = gives "G20 F10" fresh (holding xyz0 unset xyz0 800 170 900 200 540 (pos 1000000) (pos 0) 0 0 0) (feedAt (pos 1000000) ∷ [])
 
 pub units-before : Kept unitsBefore
-unfolding strip inside valueOf restOf itemsOf nearest residue near ranged decimal written numberOf operation function parameterOf gGroup mGroup gCode mCode systemNumber gCodes mCodes blockOf moves converted inOrder fresh feedStep speedStep toolStep changeStep spindleStep coolantStep planeStep unitsStep systemStep distanceStep originStep offsetStep target motionStep stopStep ready left arcMove planeAxes centre badArc commands unserved doubled missing idle wrongWord wrongMode tooFar disorder slashed answerTo
+unfolding strip inside valueOf restOf exprOf itemsOf nearest residue near ranged decimal written numberOf operation function parameterOf gGroup mGroup gCode mCode systemNumber gCodes mCodes blockOf moves converted inOrder fresh feedStep speedStep toolStep changeStep spindleStep coolantStep planeStep unitsStep systemStep distanceStep originStep offsetStep target motionStep stopStep ready left arcMove planeAxes centre badArc commands unserved doubled missing idle wrongWord wrongMode tooFar disorder opens plainMark answerTo
 units-before = kept-row unitsBefore refl
 
 -- "making G53 relative under G91"
@@ -104,7 +104,7 @@ machinePlace = gives "G53 X1" (holding (xyz (pos 500) (pos 0) (pos 0)) unset xyz
     (holding (xyz (pos 100000) (pos 0) (pos 0)) unset xyz0 0 170 910 210 540 (pos 0) (pos 0) 0 0 0) (rapidTo (pos 100000) (pos 0) (pos 0) ∷ [])
 
 pub machine-place : Kept machinePlace
-unfolding strip inside valueOf restOf itemsOf nearest residue near ranged decimal written numberOf operation function parameterOf gGroup mGroup gCode mCode systemNumber gCodes mCodes blockOf moves converted inOrder fresh feedStep speedStep toolStep changeStep spindleStep coolantStep planeStep unitsStep systemStep distanceStep originStep offsetStep target motionStep stopStep ready left arcMove planeAxes centre badArc commands unserved doubled missing idle wrongWord wrongMode tooFar disorder slashed answerTo
+unfolding strip inside valueOf restOf exprOf itemsOf nearest residue near ranged decimal written numberOf operation function parameterOf gGroup mGroup gCode mCode systemNumber gCodes mCodes blockOf moves converted inOrder fresh feedStep speedStep toolStep changeStep spindleStep coolantStep planeStep unitsStep systemStep distanceStep originStep offsetStep target motionStep stopStep ready left arcMove planeAxes centre badArc commands unserved doubled missing idle wrongWord wrongMode tooFar disorder opens plainMark answerTo
 machine-place = kept-row machinePlace refl
 
 -- "applying settings of a line later refused"
@@ -112,5 +112,5 @@ abbrev pub nothingSet : Row
 nothingSet = refuses "#3=1 G4" fresh 10
 
 pub nothing-set : Kept nothingSet
-unfolding strip inside valueOf restOf itemsOf nearest residue near ranged decimal written numberOf operation function parameterOf gGroup mGroup gCode mCode systemNumber gCodes mCodes blockOf moves converted inOrder fresh feedStep speedStep toolStep changeStep spindleStep coolantStep planeStep unitsStep systemStep distanceStep originStep offsetStep target motionStep stopStep ready left arcMove planeAxes centre badArc commands unserved doubled missing idle wrongWord wrongMode tooFar disorder slashed answerTo
+unfolding strip inside valueOf restOf exprOf itemsOf nearest residue near ranged decimal written numberOf operation function parameterOf gGroup mGroup gCode mCode systemNumber gCodes mCodes blockOf moves converted inOrder fresh feedStep speedStep toolStep changeStep spindleStep coolantStep planeStep unitsStep systemStep distanceStep originStep offsetStep target motionStep stopStep ready left arcMove planeAxes centre badArc commands unserved doubled missing idle wrongWord wrongMode tooFar disorder opens plainMark answerTo
 nothing-set = kept-row nothingSet refl

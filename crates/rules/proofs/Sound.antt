@@ -4,18 +4,19 @@
 use mathlib.Core.Path.{_≡_, refl}
 use mathlib.Core.Bool.{Bool, true, false, cond}
 use mathlib.Core.List.{List, [], _∷_}
+use mathlib.Core.Logic.{_⊎_, inl, inr}
 use Prim.Native.Nat.{ℕ, _≤_}
 use native.Mathlib.Omega.{arith}
 use lib.Dec.{eqb}
 use lib.IntN.{ℤ, natAbs}
-use Rattle.grammar.specs.Grammar.{Number, num, Value, number, parameter, applied, grouped, Expr, expr, Rest, done, more, Item, word, setting, comment}
-use Rattle.grammar.specs.Working.{Pair, pair, Took, end, stopped, took, after, terms, total, inOrder, value, expression, pairs, entries, high}
+use Rattle.grammar.specs.Grammar.{Number, num, Value, number, parameter, applied, grouped, Expr, expr, Rest, done, more, Item, word, setting, comment, Stroke, Mark, unmarked, plain, conditional, Line, line}
+use Rattle.grammar.specs.Working.{Pair, pair, Step, skip, stop, Took, end, stopped, took, after, terms, total, inOrder, value, expression, pairs, entries, lineEntries, high}
 use Rattle.grammar.specs.declared.Op.{Op}
 use Rattle.grammar.specs.declared.Op.the-variants.{Add, Sub, Mul, Div, Mod, And, Or, Xor}
 use Rattle.grammar.specs.declared.Func.{Func}
 use Rattle.grammar.specs.declared.Func.the-variants.{Abs, Fix, Fup, Round}
 use Rattle.rules.specs.Numbers.{inRange}
-use Rattle.rules.specs.Meaning.{ranged, written, numberOf, divided, operation, function, parameterOf, entry, then, Entry, wordIs, settingIs, wordOf, settingOf, settingAt, arithmetic}
+use Rattle.rules.specs.Meaning.{ranged, written, numberOf, divided, operation, function, parameterOf, entry, then, Entry, wordIs, settingIs, wordOf, settingOf, settingAt, runs, conditionOf, arithmetic}
 use Rattle.rules.specs.declared.Worked.{Worked}
 use Rattle.rules.specs.declared.Worked.the-variants.{Good, Bad}
 use Rattle.rules.specs.declared.Parameter.{Parameter}
@@ -141,3 +142,17 @@ module _ (table : List ℤ) where
   entries-sound (word b v ∷ is) = word-sound b (value (arithmetic table) v) _ (value-sound v) (entries-sound is)
   entries-sound (setting v w ∷ is) = setting-sound (value (arithmetic table) v) (value (arithmetic table) w) _ (value-sound v) (value-sound w) (entries-sound is)
   entries-sound (comment bs ∷ is) = entries-sound is
+
+  condition-sound : (k : Stroke) (w : Worked) (t : Took Entry) → Sound w → SoundTook t → (after (conditionOf k w) t ≡ stopped 100) ⊎ SoundTook (after (conditionOf k w) t)
+  condition-sound k (Bad n) t s h = inr s
+  condition-sound k (Good v) t s h = go (runs k (v .0))
+    where
+      go : (c : Bool) → (after (cond c skip (stop 100)) t ≡ stopped 100) ⊎ SoundTook (after (cond c skip (stop 100)) t)
+      go true = inr h
+      go false = inl refl
+
+  -- a line whose condition says no is stopped with 100
+  pub line-sound : (t : Line) → (lineEntries (arithmetic table) t ≡ stopped 100) ⊎ SoundTook (lineEntries (arithmetic table) t)
+  line-sound (line unmarked n is) = inr (entries-sound is)
+  line-sound (line (plain k) n is) = inr (entries-sound is)
+  line-sound (line (conditional k e) n is) = condition-sound k (expression (arithmetic table) e) (entries (arithmetic table) is) (expression-sound e) (entries-sound is)

@@ -6,7 +6,7 @@ use Prim.Native.Nat.{ℕ}
 use lib.ListN.{set}
 use lib.IntN.{pos}
 use Rattle.grammar.specs.Derivation.{strip, inside}
-use Rattle.grammar.proofs.Read.{valueOf, restOf, itemsOf}
+use Rattle.grammar.proofs.Read.{valueOf, restOf, exprOf, itemsOf}
 use Rattle.rules.specs.Numbers.{nearest, residue, near}
 use Rattle.rules.specs.Meaning.{ranged, decimal, written, numberOf, operation, function, parameterOf}
 use Rattle.rules.specs.Codes.{gGroup, mGroup, gCode, mCode, systemNumber}
@@ -16,7 +16,7 @@ use Rattle.rules.specs.Steps.{feedStep, speedStep, toolStep, changeStep,
 use Rattle.rules.specs.Arcs.{arcMove, planeAxes, centre, badArc}
 use Rattle.rules.specs.Commands.{commands}
 use Rattle.rules.specs.Refusals.{unserved, doubled, missing, idle, wrongWord, wrongMode, tooFar}
-use Rattle.rules.specs.Promise.{disorder, slashed, answerTo}
+use Rattle.rules.specs.Promise.{disorder, opens, plainMark, answerTo}
 use Rattle.rules.proofs.Rows.{Row, Kept, All, computed, said, kept-row, headOr, tailOf, neg, xyz, xyz0, holding, unset, zeros, room, begins, row}
 
 -- a row, and which of the nine work systems is in force after it
@@ -63,7 +63,7 @@ stars =
     ∷ []
 
 pub starred : All Shown stars
-unfolding strip inside valueOf restOf itemsOf nearest residue near ranged decimal written numberOf operation function parameterOf gGroup mGroup gCode mCode systemNumber gCodes mCodes blockOf moves converted inOrder fresh feedStep speedStep toolStep changeStep spindleStep coolantStep planeStep unitsStep systemStep distanceStep originStep offsetStep target motionStep stopStep ready left arcMove planeAxes centre badArc commands unserved doubled missing idle wrongWord wrongMode tooFar disorder slashed answerTo
+unfolding strip inside valueOf restOf exprOf itemsOf nearest residue near ranged decimal written numberOf operation function parameterOf gGroup mGroup gCode mCode systemNumber gCodes mCodes blockOf moves converted inOrder fresh feedStep speedStep toolStep changeStep spindleStep coolantStep planeStep unitsStep systemStep distanceStep originStep offsetStep target motionStep stopStep ready left arcMove planeAxes centre badArc commands unserved doubled missing idle wrongWord wrongMode tooFar disorder opens plainMark answerTo
 starred = shown stars refl refl
 
 -- "Fresh: zeros, G80 G17 G90 G21 G54"

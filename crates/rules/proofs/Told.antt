@@ -1,16 +1,16 @@
 -- The promise read one number at a time, as document 01's table of numbers is read. `told`: each number with its condition. `untold`: those sentences say no less
--- than the promise. `exactly`: a number is given "exactly when no earlier one applies and" its condition holds.
+-- than the promise. `exactly`: a number is given "exactly when no earlier one applies and" its condition holds; a skip, which has two causes, `skips-exactly`.
 -- Assumes nothing.
 use mathlib.Core.Path.{_≡_, refl, ap, _∙_, sym, subst}
 use mathlib.Core.Bool.{Bool, true, false, cond, not, _&&_, _||_}
 use mathlib.Core.List.{List, [], _∷_, _++_}
-use mathlib.Core.Logic.{_↔_}
+use mathlib.Core.Logic.{_↔_, _⊎_, inl, inr}
 use mathlib.Core.Option.{Option, none, some}
 use Prim.Native.Nat.{ℕ, _*_}
-use lib.Dec.{T, eqb, ltb, eqb→eq, eqb-refl}
-use lib.ListN.{length}
+use lib.Dec.{T, eqb, ltb, eqb→eq, eqb-refl, T-not}
+use lib.ListN.{length, drop}
 use lib.IntN.{ℤ}
-use Rattle.laws.proofs.Bools.{and-left, and-right, T-eq}
+use Rattle.laws.proofs.Bools.{and-left, and-right, or-cases, T-eq}
 use Rattle.grammar.specs.Grammar.{Line}
 use Rattle.grammar.specs.Derivation.{strip, Derives}
 use Rattle.grammar.specs.Working.{Contents, contents}
@@ -21,7 +21,7 @@ use Rattle.rules.specs.Steps.{ready}
 use Rattle.rules.specs.Arcs.{arcMove, badArc}
 use Rattle.rules.specs.Commands.{commands}
 use Rattle.rules.specs.Refusals.{Case, _when_, first, unserved, doubled, missing, idle, wrongWord, wrongMode, tooFar}
-use Rattle.rules.specs.Promise.{After, Right, answer, answerTo, leaving, accepted, byNumber, numbers, underived, taken, numberOf, disorder, slashed, tooDeep}
+use Rattle.rules.specs.Promise.{After, Right, answer, answerTo, leaving, accepted, byNumber, numbers, underived, taken, numberOf, disorder, unread, tooDeep}
 use Rattle.rules.specs.declared.Block.{Block}
 use Rattle.rules.specs.declared.Record.{Record}
 use Rattle.rules.specs.declared.Answer.the-variants.{Refused, Skipped}
@@ -50,20 +50,51 @@ given n ((k when c) ∷ cs) t u = go (eqb k n) c refl t u (λ p q. given n cs p 
     go false true e t u f = absurd t
     go false false e t u f = f t u
 
--- each number stands once
-abbrev pub distinct : List Case → Bool
-distinct [] = true
-distinct ((n when c) ∷ cs) = lacks n cs && distinct cs
+-- each number stands once, but for one number
+abbrev pub distinctBut : ℕ → List Case → Bool
+distinctBut m [] = true
+distinctBut m ((n when c) ∷ cs) = (eqb n m || lacks n cs) && distinctBut m cs
 
 -- and it is given only then
-pub given-only : (n : ℕ) (cs : List Case) → T (distinct cs) → first cs ≡ n → T (noneBefore n cs) × T (condition n cs)
-given-only n [] d e = (tt, subst (λ (k : ℕ). T (eqb k 0)) e tt)
-given-only n ((k when true) ∷ cs) d e = rw (T-eq (eqb k n) (subst (λ (x : ℕ). T (eqb k x)) e (eqb-refl k))) (tt, tt)
-given-only n ((k when false) ∷ cs) d e = go (eqb k n) refl (given-only n cs (and-right (lacks k cs) (distinct cs) d) e)
+pub given-only : (m n : ℕ) (cs : List Case) → T (distinctBut m cs) → (n ≡ m → ⊥) → first cs ≡ n → T (noneBefore n cs) × T (condition n cs)
+given-only m n [] d u e = (tt, subst (λ (k : ℕ). T (eqb k 0)) e tt)
+given-only m n ((k when true) ∷ cs) d u e = rw (T-eq (eqb k n) (subst (λ (x : ℕ). T (eqb k x)) e (eqb-refl k))) (tt, tt)
+given-only m n ((k when false) ∷ cs) d u e = go (eqb k n) refl (given-only m n cs (and-right (eqb k m || lacks k cs) (distinctBut m cs) d) u e)
   where
     go : (x : Bool) → eqb k n ≡ x → T (noneBefore n cs) × T (condition n cs) → T (x || noneBefore n cs) × T (cond x false (condition n cs))
-    go true p f = absurd (lacking k cs (and-left (lacks k cs) (distinct cs) d) (e ∙ sym (eqb→eq k n (subst T (sym p) tt))))
+    go true p f =
+        let same : k ≡ n = eqb→eq k n (subst T (sym p) tt) in
+        or-cases (eqb k m) (lacks k cs) (λ q. absurd (u (sym same ∙ eqb→eq k m q))) (λ q. absurd (lacking k cs q (e ∙ sym same))) (and-left (eqb k m || lacks k cs) (distinctBut m cs) d)
     go false p f = f
+
+-- no condition of a list holds
+abbrev pub noneOf : List Case → Bool
+noneOf [] = true
+noneOf ((k when c) ∷ cs) = not c && noneOf cs
+
+-- what stands behind them is first
+behind : (xs ys : List Case) → T (noneOf xs) → first (xs ++ ys) ≡ first ys
+behind [] ys t = refl
+behind ((k when true) ∷ xs) ys t = absurd t
+behind ((k when false) ∷ xs) ys t = behind xs ys t
+
+-- a number that stands twice is given at the first place or at the second
+abbrev absent : ℕ → List Case → Bool
+absent n [] = true
+absent n ((k when c) ∷ cs) = not (eqb k n) && absent n cs
+
+at-second : (n : ℕ) (ys : List Case) (d : Bool) (zs : List Case) → T (absent n ys) → T (lacks n zs) → first (ys ++ (n when d) ∷ zs) ≡ n → T (noneOf ys) × T d
+at-second n [] true zs y z e = (tt, tt)
+at-second n [] false zs y z e = absurd (lacking n zs z e)
+at-second n ((k when true) ∷ ys) d zs y z e = absurd (T-not (eqb k n) (and-left (not (eqb k n)) (absent n ys) y) (subst (λ (x : ℕ). T (eqb k x)) e (eqb-refl k)))
+at-second n ((k when false) ∷ ys) d zs y z e = at-second n ys d zs (and-right (not (eqb k n)) (absent n ys) y) z e
+
+at-either : (n : ℕ) (xs : List Case) (c : Bool) (ys : List Case) (d : Bool) (zs : List Case) → T (absent n xs) → T (absent n ys) → T (lacks n zs) →
+    first (xs ++ (n when c) ∷ (ys ++ (n when d) ∷ zs)) ≡ n → (T (noneOf xs) × T c) ⊎ (T (noneOf (xs ++ (n when c) ∷ ys)) × T d)
+at-either n [] true ys d zs x y z e = inl (tt, tt)
+at-either n [] false ys d zs x y z e = inr (at-second n ys d zs y z e)
+at-either n ((k when true) ∷ xs) c ys d zs x y z e = absurd (T-not (eqb k n) (and-left (not (eqb k n)) (absent n xs) x) (subst (λ (w : ℕ). T (eqb k w)) e (eqb-refl k)))
+at-either n ((k when false) ∷ xs) c ys d zs x y z e = at-either n xs c ys d zs (and-right (not (eqb k n)) (absent n xs) x) y z e
 
 module _ (line : List ℕ) (switch : Bool) (r : Record) (table out : List ℤ) where
   -- what a derivation gives: all that is read, its words, its summary, and the record as the motion step finds it
@@ -81,12 +112,16 @@ module _ (line : List ℕ) (switch : Bool) (r : Record) (table out : List ℤ) w
 
   -- the numbers judged before the form is, and all of them for a derivation or none
   abbrev pub early : List Case
-  early = (1 when disorder r table) ∷ (2 when ltb 256 (length line)) ∷ (100 when (switch && slashed line)) ∷ []
+  early = (1 when disorder r table) ∷ (2 when ltb 256 (length line)) ∷ (100 when unread switch line) ∷ []
 
   abbrev pub cases : Option Line → List Case
   cases f =
       let e = reading table f in
       numbers (underived e) (taken e) (blockOf (words (taken e .entries))) line switch r table (length out)
+
+  -- the numbers judged before a condition is worked out
+  abbrev pub unasked : Line → List Case
+  unasked t = early ++ (3 when false) ∷ (16 when tooDeep (read t)) ∷ []
 
   abbrev pub refused : ℕ → After
   refused n = leaving (Refused n) r table out
@@ -94,9 +129,10 @@ module _ (line : List ℕ) (switch : Bool) (r : Record) (table out : List ℤ) w
   pub record Told (a : After) : Type 0 where
     pub disordered : disorder r table ≡ true → a ≡ refused 1
     pub tooLong : T (noneBefore 2 early) → ltb 256 (length line) ≡ true → a ≡ refused 2
-    pub skipped : T (noneBefore 100 early) → (switch && slashed line) ≡ true → a ≡ leaving Skipped r table out
+    pub skipped : T (noneBefore 100 early) → unread switch line ≡ true → a ≡ leaving Skipped r table out
     pub underivable : T (noneBefore 3 early) → ((t : Line) → ¬ Derives t line) → a ≡ refused 3
     pub nestsDeep : (t : Line) → Derives t line → T (noneBefore 16 (cases (some t))) → tooDeep (read t) ≡ true → a ≡ refused 16
+    pub saysNo : (t : Line) → Derives t line → T (noneOf (unasked t)) → meets (read t .entries) 100 ≡ true → a ≡ leaving Skipped r table out
     pub tooFine : (t : Line) → Derives t line → T (noneBefore 4 (cases (some t))) → meets (read t .entries) 4 ≡ true → a ≡ refused 4
     pub outOfRange : (t : Line) → Derives t line → T (noneBefore 5 (cases (some t))) → meets (read t .entries) 5 ≡ true → a ≡ refused 5
     pub byZero : (t : Line) → Derives t line → T (noneBefore 6 (cases (some t))) → meets (read t .entries) 6 ≡ true → a ≡ refused 6
@@ -112,10 +148,13 @@ module _ (line : List ℕ) (switch : Bool) (r : Record) (table out : List ℤ) w
     pub works : (t : Line) → Derives t line → T (noneBefore 0 (cases (some t))) → a ≡ accepted (read t) (block t) r table out
 
   -- ---- told
+  by-first : (f : Option Line) (n : ℕ) → first (cases f) ≡ n → answer f line switch r table out ≡ byNumber n (taken (reading table f)) (blockOf (words (taken (reading table f) .entries))) r table out
+  unfolding answerTo
+  by-first f n e = ap (λ (k : ℕ). byNumber k (taken (reading table f)) (blockOf (words (taken (reading table f) .entries))) r table out) e
+
   by-given : (f : Option Line) (n : ℕ) → T (noneBefore n (cases f)) → T (condition n (cases f)) →
       answer f line switch r table out ≡ byNumber n (taken (reading table f)) (blockOf (words (taken (reading table f) .entries))) r table out
-  unfolding answerTo
-  by-given f n t u = ap (λ (k : ℕ). byNumber k (taken (reading table f)) (blockOf (words (taken (reading table f) .entries))) r table out) (given n (cases f) t u)
+  by-given f n t u = by-first f n (given n (cases f) t u)
 
   pub told : {a : After} → Right line switch r table out a → Told a
   told {a} p = record {
@@ -124,6 +163,7 @@ module _ (line : List ℕ) (switch : Bool) (r : Record) (table out : List ℤ) w
     skipped = λ h c. early-number 100 h (holds c);
     underivable = λ h d. p .byNone d ∙ by-given none 3 h tt;
     nestsDeep = λ t d h c. later-number t d 16 h (holds c);
+    saysNo = λ t d h c. p .byTree t d ∙ by-first (some t) 100 (behind (unasked t) (drop 5 (cases (some t))) h ∙ rw c);
     tooFine = λ t d h c. later-number t d 4 h (holds c);
     outOfRange = λ t d h c. later-number t d 5 h (holds c);
     byZero = λ t d h c. later-number t d 6 h (holds c);
@@ -182,22 +222,25 @@ module _ (line : List ℕ) (switch : Bool) (r : Record) (table out : List ℤ) w
             (
               s .nestsDeep t d,
               (
-                s .tooFine t d,
+                s .saysNo t d,
                 (
-                  s .outOfRange t d,
+                  s .tooFine t d,
                   (
-                    s .byZero t d,
+                    s .outOfRange t d,
                     (
-                      s .noParameter t d,
+                      s .byZero t d,
                       (
-                        s .notServed t d,
+                        s .noParameter t d,
                         (
-                          s .givenTwice t d,
+                          s .notServed t d,
                           (
-                            s .missingOrIdle t d,
+                            s .givenTwice t d,
                             (
-                              s .badWord t d,
-                              (s .badMode t d, (s .outOfReach t d, (s .unequalRadii t d, (s .noRoom t d, s .works t d)))),
+                              s .missingOrIdle t d,
+                              (
+                                s .badWord t d,
+                                (s .badMode t d, (s .outOfReach t d, (s .unequalRadii t d, (s .noRoom t d, s .works t d)))),
+                              ),
                             ),
                           ),
                         ),
@@ -212,13 +255,27 @@ module _ (line : List ℕ) (switch : Bool) (r : Record) (table out : List ℤ) w
       ),
     );
     byNone = λ h. by-sentences (λ x. x) (early ++ (3 when true) ∷ []) (λ n. a ≡ byNumber n (taken none) (blockOf []) r table out) tt
-        (λ _ c. s .disordered c, (s .tooLong, (s .skipped, (λ k _. s .underivable k h, λ k. absurd (never (disorder r table) (ltb 256 (length line)) (switch && slashed line) k)))));
+        (λ _ c. s .disordered c, (s .tooLong, (s .skipped, (λ k _. s .underivable k h, λ k. absurd (never (disorder r table) (ltb 256 (length line)) (unread switch line) k)))));
   }
 
   -- ---- exactly
-  pub exactly : {a : After} → Right line switch r table out a → (t : Line) → Derives t line → (n : ℕ) → (numberOf (a .outcome .answer) ≡ n) ↔ (T (noneBefore n (cases (some t))) × T (condition n (cases (some t))))
-  unfolding answerTo
-  exactly p t d n =
-      let cs = cases (some t) in
-      let e = ap (λ (x : After). numberOf (x .outcome .answer)) (p .byTree t d) ∙ number-is (first cs) (read t) (block t) r table out in
-      (λ q. given-only n cs tt (sym e ∙ q), λ h. e ∙ given n cs (h .0) (h .1))
+  module _ {a : After} (p : Right line switch r table out a) (t : Line) (d : Derives t line) where
+    number-first : numberOf (a .outcome .answer) ≡ first (cases (some t))
+    unfolding answerTo
+    number-first = ap (λ (x : After). numberOf (x .outcome .answer)) (p .byTree t d) ∙ number-is (first (cases (some t))) (read t) (block t) r table out
+
+    pub exactly : (n : ℕ) → (n ≡ 100 → ⊥) → (numberOf (a .outcome .answer) ≡ n) ↔ (T (noneBefore n (cases (some t))) × T (condition n (cases (some t))))
+    exactly n u =
+        let cs = cases (some t) in
+        (λ q. given-only 100 n cs tt u (sym number-first ∙ q), λ h. number-first ∙ given n cs (h .0) (h .1))
+
+    -- unread, or by its condition
+    pub skips-exactly : (numberOf (a .outcome .answer) ≡ 100) ↔ ((T (noneBefore 100 early) × T (unread switch line)) ⊎ (T (noneOf (unasked t)) × T (meets (read t .entries) 100)))
+    skips-exactly = (
+      λ q. at-either 100 ((1 when disorder r table) ∷ (2 when ltb 256 (length line)) ∷ []) (unread switch line) ((3 when false) ∷ (16 when tooDeep (read t)) ∷ []) (meets (read t .entries) 100) (drop 6 (cases (some t))) tt tt tt (sym number-first ∙ q),
+      λ h. number-first ∙ back h,
+    )
+      where
+        back : (T (noneBefore 100 early) × T (unread switch line)) ⊎ (T (noneOf (unasked t)) × T (meets (read t .entries) 100)) → first (cases (some t)) ≡ 100
+        back (inl h) = given 100 (cases (some t)) (h .0) (h .1)
+        back (inr h) = behind (unasked t) (drop 5 (cases (some t))) (h .0) ∙ rw (T-eq (meets (read t .entries) 100) (h .1))

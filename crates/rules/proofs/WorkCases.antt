@@ -9,7 +9,7 @@ use Prim.Native.String.{String}
 use lib.ListN.{replicate}
 use Rattle.grammar.specs.Bytes.{byte, bytes}
 use Rattle.grammar.specs.Derivation.{strip, inside}
-use Rattle.grammar.proofs.Read.{parse, valueOf, restOf, itemsOf}
+use Rattle.grammar.proofs.Read.{parse, valueOf, restOf, exprOf, itemsOf}
 use Rattle.rules.specs.Numbers.{nearest, residue, near}
 use Rattle.rules.specs.Meaning.{ranged, decimal, written, numberOf, operation, function, parameterOf}
 use Rattle.rules.specs.Codes.{gGroup, mGroup, gCode, mCode, systemNumber}
@@ -19,7 +19,7 @@ use Rattle.rules.specs.Steps.{feedStep, speedStep, toolStep, changeStep,
 use Rattle.rules.specs.Arcs.{arcMove, planeAxes, centre, badArc}
 use Rattle.rules.specs.Commands.{commands}
 use Rattle.rules.specs.Refusals.{unserved, doubled, missing, idle, wrongWord, wrongMode, tooFar}
-use Rattle.rules.specs.Promise.{After, Right, answer, numberOf as numberFor, disorder, slashed, answerTo}
+use Rattle.rules.specs.Promise.{After, Right, answer, numberOf as numberFor, disorder, opens, plainMark, answerTo}
 use Rattle.rules.proofs.Demands.{by-model}
 use Rattle.rules.proofs.Rows.{All, zeros, room, headOr, tailOf}
 
@@ -86,5 +86,5 @@ reports =
     ∷ []
 
 pub work-reported : All Reported reports
-unfolding strip inside valueOf restOf itemsOf nearest residue near ranged decimal written numberOf operation function parameterOf gGroup mGroup gCode mCode systemNumber gCodes mCodes blockOf moves converted inOrder fresh feedStep speedStep toolStep changeStep spindleStep coolantStep planeStep unitsStep systemStep distanceStep originStep offsetStep target motionStep stopStep ready left arcMove planeAxes centre badArc commands unserved doubled missing idle wrongWord wrongMode tooFar disorder slashed answerTo
+unfolding strip inside valueOf restOf exprOf itemsOf nearest residue near ranged decimal written numberOf operation function parameterOf gGroup mGroup gCode mCode systemNumber gCodes mCodes blockOf moves converted inOrder fresh feedStep speedStep toolStep changeStep spindleStep coolantStep planeStep unitsStep systemStep distanceStep originStep offsetStep target motionStep stopStep ready left arcMove planeAxes centre badArc commands unserved doubled missing idle wrongWord wrongMode tooFar disorder opens plainMark answerTo
 work-reported = reported reports refl

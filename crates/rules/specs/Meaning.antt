@@ -1,6 +1,6 @@
 -- What the values of a tree come to, from the table as it was at entry, and the numbers 4 to 7.
 -- Assumes nothing.
-use mathlib.Core.Bool.{Bool, true, false, cond, _&&_, _||_}
+use mathlib.Core.Bool.{Bool, true, false, cond, not, _&&_, _||_}
 use mathlib.Core.List.{List, [], _∷_, _++_}
 use mathlib.Core.Option.{Option}
 use Prim.Native.Nat.{ℕ, _+_, _-_, _*_, _^_}
@@ -8,13 +8,13 @@ use lib.Dec.{eqb}
 use lib.ListN.{length, getD}
 use lib.IntN.{ℤ, pos, natAbs, _+ℤ_, _-ℤ_, _*ℤ_}
 use Rattle.grammar.specs.Bytes.{byte}
-use Rattle.grammar.specs.Grammar.{Sign, unsigned, plus, minus, Fraction, Number, num, fractionDigits, Line}
-use Rattle.grammar.specs.Working.{Arithmetic, Step, give, stop, Took, end, stopped, took, Contents, contentsOf}
+use Rattle.grammar.specs.Grammar.{Sign, unsigned, plus, minus, Fraction, Number, num, fractionDigits, Stroke, slash, backslash, Line}
+use Rattle.grammar.specs.Working.{Arithmetic, Step, skip, give, stop, Took, end, stopped, took, Contents, contentsOf}
 use Rattle.grammar.specs.declared.Op.{Op}
 use Rattle.grammar.specs.declared.Op.the-variants.{Add, Sub, Mul, Div, Mod, And, Or, Xor}
 use Rattle.grammar.specs.declared.Func.{Func}
 use Rattle.grammar.specs.declared.Func.the-variants.{Abs, Fix, Fup, Round}
-use Rattle.rules.specs.Numbers.{signed, inRange, nearest, residue, down, upward, rounded, isTrue, truth, whole, between, counted, differ}
+use Rattle.rules.specs.Numbers.{signed, within, inRange, nearest, residue, down, upward, rounded, isTrue, truth, whole, between, counted, differ}
 use Rattle.rules.specs.declared.Value.{Value}
 use Rattle.rules.specs.declared.Worked.{Worked}
 use Rattle.rules.specs.declared.Worked.the-variants.{Good, Bad}
@@ -103,6 +103,16 @@ abbrev pub settingOf : Worked → Worked → Step Entry
 settingOf (Good v) w = settingAt (parameterOf (v .0)) w
 settingOf (Bad n) w = stop n
 
+-- "`/[expression]` (run if not zero) and `\[expression]` (run if zero)"; "Zero means at most 0.0001 from zero"
+abbrev pub runs : Stroke → ℤ → Bool
+runs slash v = not (within 1 v)
+runs backslash v = within 1 v
+
+-- "if it says no, the line is skipped": 100 is a skip's number; "3 to 7 may now come from a condition, before anything else on the line"
+abbrev pub conditionOf : Stroke → Worked → Step Entry
+conditionOf k (Good v) = cond (runs k (v .0)) skip (stop 100)
+conditionOf k (Bad n) = stop n
+
 -- "All values on a line are worked out left to right from the table as it was at entry"; "an operation is worked out once its right side is"
 abbrev pub arithmetic : List ℤ → Arithmetic Worked Entry
 arithmetic table = record {
@@ -113,6 +123,7 @@ arithmetic table = record {
   work = λ o a b. then a (λ x. then b (λ y. operation o x y));
   wordOf = wordOf;
   settingOf = settingOf;
+  conditionOf = conditionOf;
 }
 
 -- "the tree's words and settings in order, with their values, up to the first of numbers 4 to 7"; its work, and how deep it nests

@@ -63,10 +63,19 @@ leaving a r table out = worth 0 a r table out
 unfoldable pub disorder : Record → List ℤ → Bool
 disorder r table = not (eqb (length table) 5000) || not (inOrder r)
 
--- "a line whose first non-blank byte is `/`"
-unfoldable pub slashed : List ℕ → Bool
-slashed [] = false
-slashed (b ∷ s) = cond (blank b) (slashed s) (eqb b (byte "/"))
+-- the next non-blank byte is `[`
+unfoldable pub opens : List ℕ → Bool
+opens [] = false
+opens (b ∷ s) = cond (blank b) (opens s) (eqb b (byte "["))
+
+-- "a line whose first non-blank byte is" that mark, and "A mark whose next non-blank byte is `[` ignores the switch"
+unfoldable pub plainMark : ℕ → List ℕ → Bool
+plainMark mark [] = false
+plainMark mark (b ∷ s) = cond (blank b) (plainMark mark s) (eqb b mark && not (opens s))
+
+-- "others skip unread, as today": `/` with the switch on; "a plain `\` .. runs only with the switch on"
+abbrev pub unread : Bool → List ℕ → Bool
+unread switch line = cond switch (plainMark (byte "/") line) (plainMark (byte "\\") line)
 
 -- number 3: "no derivation"
 abbrev pub underived : {A : Type 0} → Option A → Bool
@@ -95,14 +104,16 @@ abbrev pub accepted : Contents Entry → Block → Record → List ℤ → List 
 accepted c b r table out =
     worth (c .work) (answerOf 0 (length (commands b (ready b r)))) (left b r) (apply (settings (c .entries)) table) (over (written (commands b (ready b r))) out)
 
--- "Numbers a refused line carries", each "given exactly when no earlier one applies"; 16 is "checked after 3 and before 4"
+-- "Numbers a refused line carries", each "given exactly when no earlier one applies"; 16 is "checked after 3 and before 4, and before a condition is worked out";
+-- of 4 to 7 and a condition that says no, the first met in working order has stopped the reading
 abbrev pub numbers : Bool → Contents Entry → Block → List ℕ → Bool → Record → List ℤ → ℕ → List Case
 numbers wrong c b line switch r table room =
     (1 when disorder r table)
     ∷ (2 when ltb 256 (length line))
-    ∷ (100 when (switch && slashed line))
+    ∷ (100 when unread switch line)
     ∷ (3 when wrong)
     ∷ (16 when tooDeep c)
+    ∷ (100 when meets (c .entries) 100)
     ∷ (4 when meets (c .entries) 4)
     ∷ (5 when meets (c .entries) 5)
     ∷ (6 when meets (c .entries) 6)

@@ -27,13 +27,13 @@ returns-3 c =
     let s = c .before .before .before .before .before .before .args in
     let old = spaces (s .letters .now) (s .values .now) (s .numbers .now) (s .amounts .now) in
     let z = c .before .before .before .before .if1 .left in
-    let skipped = by-test (c .before .before .skips .ensures) (c .before .if3 .taken) in
+    let skipped = by-test (c .before .before .unread .ensures) (c .before .if3 .taken) in
     (kept-skipped (s .line .now) (s .switch) (s .rec) (s .table .now) (s .out .now) z (omega arith) skipped (c .answered2 .ensures), lends-skipped (s .line .now) (s .switch) (s .table .now) old z (omega arith) skipped)
 
 read-and-work-requires : tie.Need-read-and-work-requires
 read-and-work-requires c κs =
     let e = c .before .before .before .before .before .before .sized .ensures in
-    (c .before .before .before .before .before .before .before .before .before .before .before .before .before .before .if1 .left, omega (arith, c .before .before .before .before .before .before .before .before .before .before .before .before .before .if2 .left), by-test (c .before .before .before .before .before .before .before .before .before .before .before .before .skips .ensures) (c .before .before .before .before .before .before .before .before .before .before .before .if3 .left), e .0, e .1, e .2, e .3)
+    (c .before .before .before .before .before .before .before .before .before .before .before .before .before .before .if1 .left, omega (arith, c .before .before .before .before .before .before .before .before .before .before .before .before .before .if2 .left), by-test (c .before .before .before .before .before .before .before .before .before .before .before .before .unread .ensures) (c .before .before .before .before .before .before .before .before .before .before .before .if3 .left), e .0, e .1, e .2, e .3)
 
 returns-4 : tie.Need-returns-4
 returns-4 c = c .before .before .read-and-work .ensures

@@ -1,9 +1,11 @@
 -- `control::read_and_work` meets its contract: what the reader leaves is worked as the rules say.
 -- Assumes nothing.
-use mathlib.Core.Path.{refl}
+use mathlib.Core.Path.{refl, ap, _∙_}
 use borrow.Author.Needs.{needs}
 use Rattle.reader.specs.Reading.{spaces}
-use Rattle.control.proofs.Keeping.{kept-read, kept-refused, lends-read}
+use Rattle.rules.specs.declared.Answer.{Answer}
+use Rattle.control.specs.Worked.{judgedAs, unchanged}
+use Rattle.control.proofs.Keeping.{kept-read, kept-as, lends-read}
 use Rattle.control.proofs.read_and_work.Statement.{statement}
 use Rattle.control.proofs.read_and_work.Tie as tie
 
@@ -19,11 +21,12 @@ returns c =
 
 returns-2 : tie.Need-returns-2
 returns-2 c =
-    let s = c .before .before .before .before .before .before .before .before .before .before .before .args in
-    let p = c .before .before .before .before .before .before .before .before .before .before .before .pre in
+    let s = c .before .before .before .before .before .before .before .before .before .before .before .before .args in
+    let p = c .before .before .before .before .before .before .before .before .before .before .before .before .pre in
     let old = spaces (s .letters .now) (s .values .now) (s .numbers .now) (s .amounts .now) in (
-      kept-refused (s .line .now) (s .switch) (s .rec) (s .table .now) (s .out .now) (p .0) (p .1) (p .2) old (p .3) (p .4) (p .5) (p .6) (rw (c .before .before .number .given .1) at (c .before .before .before .before .read .ensures)) _ refl (c .answered .ensures),
-      lends-read (s .line .now) (s .switch) (s .table .now) old (p .0) (p .1) (p .2) (c .before .before .before .before .read .ensures),
+      kept-as (s .line .now) (s .switch) (s .rec) (s .table .now) (s .out .now) (p .0) (p .1) (p .2) old (p .3) (p .4) (p .5) (p .6) (rw (c .before .before .before .number .given .1) at (c .before .before .before .before .before .read .ensures)) _ refl
+          (c .answered .ensures ∙ ap (λ (a : Answer). unchanged (judgedAs a (s .rec)) (s .rec)) (c .before .stopped-as .ensures)),
+      lends-read (s .line .now) (s .switch) (s .table .now) old (p .0) (p .1) (p .2) (c .before .before .before .before .before .read .ensures),
     )
 
 returns-3 : tie.Need-returns-3
@@ -31,7 +34,7 @@ returns-3 c =
     let s = c .before .before .before .before .before .before .before .before .before .before .args in
     let p = c .before .before .before .before .before .before .before .before .before .before .pre in
     let old = spaces (s .letters .now) (s .values .now) (s .numbers .now) (s .amounts .now) in (
-      kept-refused (s .line .now) (s .switch) (s .rec) (s .table .now) (s .out .now) (p .0) (p .1) (p .2) old (p .3) (p .4) (p .5) (p .6) (rw (c .before .enum-told .given .1) at (c .before .before .before .read .ensures)) _ refl (c .answered2 .ensures),
+      kept-as (s .line .now) (s .switch) (s .rec) (s .table .now) (s .out .now) (p .0) (p .1) (p .2) old (p .3) (p .4) (p .5) (p .6) (rw (c .before .enum-told .given .1) at (c .before .before .before .read .ensures)) _ refl (c .answered2 .ensures),
       lends-read (s .line .now) (s .switch) (s .table .now) old (p .0) (p .1) (p .2) (c .before .before .before .read .ensures),
     )
 
@@ -40,7 +43,7 @@ returns-4 c =
     let s = c .before .before .before .before .before .before .before .before .before .before .args in
     let p = c .before .before .before .before .before .before .before .before .before .before .pre in
     let old = spaces (s .letters .now) (s .values .now) (s .numbers .now) (s .amounts .now) in (
-      kept-refused (s .line .now) (s .switch) (s .rec) (s .table .now) (s .out .now) (p .0) (p .1) (p .2) old (p .3) (p .4) (p .5) (p .6) (rw (c .before .enum-told2 .given .1) at (c .before .before .before .read .ensures)) _ refl (c .answered3 .ensures),
+      kept-as (s .line .now) (s .switch) (s .rec) (s .table .now) (s .out .now) (p .0) (p .1) (p .2) old (p .3) (p .4) (p .5) (p .6) (rw (c .before .enum-told2 .given .1) at (c .before .before .before .read .ensures)) _ refl (c .answered3 .ensures),
       lends-read (s .line .now) (s .switch) (s .table .now) old (p .0) (p .1) (p .2) (c .before .before .before .read .ensures),
     )
 
@@ -49,7 +52,7 @@ returns-5 c =
     let s = c .before .before .before .before .before .before .before .before .before .before .args in
     let p = c .before .before .before .before .before .before .before .before .before .before .pre in
     let old = spaces (s .letters .now) (s .values .now) (s .numbers .now) (s .amounts .now) in (
-      kept-refused (s .line .now) (s .switch) (s .rec) (s .table .now) (s .out .now) (p .0) (p .1) (p .2) old (p .3) (p .4) (p .5) (p .6) (rw (c .before .enum-told3 .given .1) at (c .before .before .before .read .ensures)) _ refl (c .answered4 .ensures),
+      kept-as (s .line .now) (s .switch) (s .rec) (s .table .now) (s .out .now) (p .0) (p .1) (p .2) old (p .3) (p .4) (p .5) (p .6) (rw (c .before .enum-told3 .given .1) at (c .before .before .before .read .ensures)) _ refl (c .answered4 .ensures),
       lends-read (s .line .now) (s .switch) (s .table .now) old (p .0) (p .1) (p .2) (c .before .before .before .read .ensures),
     )
 
@@ -61,6 +64,7 @@ read-and-work-spec =
     (λ c. search needs)
     (λ c κs. search needs)
     (λ c. search needs)
+    (λ c κs. search needs)
     (λ c κs. search needs)
     (λ c. search needs)
     (λ c κs. search needs)

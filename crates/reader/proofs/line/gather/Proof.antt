@@ -4,7 +4,9 @@ use native.Mathlib.Omega.{arith}
 use borrow.Author.Needs.{needs}
 use borrow.Author.Tests.{not-true, not-false}
 use lib.ListN.{length}
+use Rattle.grammar.proofs.Trees.{itemsT}
 use Rattle.reader.specs.Reading.{spaces}
+use Rattle.reader.specs.Gather.{leftAs}
 use Rattle.reader.proofs.Passing.{at-word, at-setting, at-comment, at-stop, at-deep, past-on}
 use Rattle.reader.proofs.Gathering.{Gathered, gather-none, room-for-word, room-for-setting, room-for-work, gather-word, gather-setting, gather-past, gather-comment, gather-stop, gather-deep, recounted, gather-wrong, gather-end}
 use Rattle.reader.proofs.line.gather.Statement.{statement}
@@ -19,13 +21,13 @@ use Rattle.reader.proofs.line.store_word.Reads as store-word-reads
 
 abbrev Inv-loop : tie.InvT-loop
 Inv-loop text table at letters₀ values₀ numbers₀ amounts₀ words₀ settings₀ work₀ deep₀ stopped₀ number₀ i₀ letters values numbers amounts words settings work deep stopped number i =
-    Gathered table text at (spaces letters₀ values₀ numbers₀ amounts₀) (spaces letters values numbers amounts) words settings work number i deep stopped
+    Gathered table text (leftAs table deep₀ stopped₀ number₀ words₀ settings₀ work₀ (spaces letters₀ values₀ numbers₀ amounts₀) (itemsT text at)) (spaces letters values numbers amounts) words settings work number i deep stopped
 
 abbrev μ-loop : tie.MeasureT-loop
 μ-loop text table at letters₀ values₀ numbers₀ amounts₀ words₀ settings₀ work₀ deep₀ stopped₀ number₀ i₀ letters values numbers amounts words settings work deep stopped number i = length text - i
 
 loop-holds : tie.Need-loop-holds Inv-loop μ-loop
-loop-holds c = gather-none (c .before .args .table .now) (c .before .args .text .now) (c .before .args .at) (spaces (c .before .args .letters .now) (c .before .args .values .now) (c .before .args .numbers .now) (c .before .args .amounts .now)) (c .before .pre .0)
+loop-holds c = gather-none (c .before .args .table .now) (c .before .args .text .now) (c .before .args .at) (spaces (c .before .args .letters .now) (c .before .args .values .now) (c .before .args .numbers .now) (c .before .args .amounts .now)) (c .before .args .begun) (c .before .pre .0) (c .before .pre .2)
 
 item-from-requires : tie.Need-item-from-requires Inv-loop μ-loop
 item-from-requires c κs = tt
