@@ -4,7 +4,8 @@
  *
  * The first refused line ends the session, since the lines after it were written for a machine that has worked
  * it: after G1 Z-3, a refused G0 Z100000 and then G0 X0 Y0 would be a rapid through the work. Which line it is,
- * counted from 1, and why, is told on standard error, and the exit status is 1.
+ * counted from 1, and why, is told on standard error, for a wrong form with the line and a caret under the place
+ * where it breaks; and the exit status is 1.
  */
 #include <inttypes.h>
 #include <stdbool.h>
@@ -73,24 +74,40 @@ static bool act(const int64_t *command) {
 
 /* ---- the lines */
 
-static bool refuse(unsigned long place, uint32_t number) {
-    fprintf(stderr, "session: line %lu is refused with number %" PRIu32 ": %s; %s\n", place, number,
-            rs274_why(number), rs274_remedy(number));
+/* A byte as it is shown, each as wide as any other: a tab is a blank, and what is no character a question mark. */
+static char shown(uint8_t byte) {
+    if (byte == '\t') return ' ';
+    return ' ' <= byte && byte <= '~' ? (char)byte : '?';
+}
+
+/* The line, and a caret under the first byte with which no right line goes on, or behind the last byte where the line
+   only ends too early. */
+static void point(const uint8_t *line, size_t length, uint64_t place) {
+    for (size_t i = 0; i < length; i++) fputc(shown(line[i]), stderr);
+    fputc('\n', stderr);
+    for (uint64_t i = 0; i < place; i++) fputc(' ', stderr);
+    fputs("^\n", stderr);
+}
+
+static bool refuse(unsigned long which, const uint8_t *line, size_t length, struct rs274_answer answer) {
+    fprintf(stderr, "session: line %lu is refused with number %" PRIu32 ": %s; %s\n", which, answer.number,
+            rs274_why(answer.number), rs274_remedy(answer.number));
+    if (answer.number == RS274_REFUSED_FORM) point(line, length, answer.place);
     return false;
 }
 
-/* One line, at its place in the program. False where the session must end. */
-static bool work(unsigned long place, const uint8_t *line, size_t length) {
+/* One line, with its number in the program. False where the session must end. */
+static bool work(unsigned long which, const uint8_t *line, size_t length) {
     struct rs274_answer answer = rs274_line(line, length, block_delete, rec, RS274_RECORD,
                                             table, RS274_TABLE, out, sizeof out / sizeof *out);
-    if (answer.number != RS274_ACCEPTED && answer.number != RS274_SKIPPED) return refuse(place, answer.number);
+    if (answer.number != RS274_ACCEPTED && answer.number != RS274_SKIPPED) return refuse(which, line, length, answer);
     for (size_t i = 0; i < answer.count; i++) {
         if (act(out + RS274_COMMAND * i)) continue;
-        fprintf(stderr, "session: line %lu has a command of a kind that is not known here\n", place);
+        fprintf(stderr, "session: line %lu has a command of a kind that is not known here\n", which);
         return false;
     }
     if (fflush(stdout) == 0) return true;
-    fprintf(stderr, "session: what line %lu does could not be written\n", place);
+    fprintf(stderr, "session: what line %lu does could not be written\n", which);
     return false;
 }
 
@@ -99,19 +116,19 @@ static bool work(unsigned long place, const uint8_t *line, size_t length) {
 int main(void) {
     static uint8_t line[RS274_LINE + 2]; /* a byte too many, and a carriage return */
     size_t length = 0;
-    unsigned long place = 1;
+    unsigned long which = 1;
     for (int byte = getchar(); byte != EOF; byte = getchar()) {
         if (byte != '\n') {
             if (length < sizeof line) line[length++] = (uint8_t)byte;
             continue;
         }
         if (length > 0 && line[length - 1] == '\r') length--;
-        if (!work(place++, line, length)) return 1;
+        if (!work(which++, line, length)) return 1;
         length = 0;
     }
     if (ferror(stdin)) {
-        fprintf(stderr, "session: line %lu could not be read\n", place);
+        fprintf(stderr, "session: line %lu could not be read\n", which);
         return 1;
     }
-    return length == 0 || work(place, line, length) ? 0 : 1;
+    return length == 0 || work(which, line, length) ? 0 : 1;
 }

@@ -170,8 +170,8 @@ enum {
 
 /* ---- the call */
 
-/* Bytes of stack to keep free for a call. Measured, on a painted stack (tests/headers/stack.c): 5,784 for a
-   plain line, and 18,208 at most, for the deepest of 256 bytes, right or wrong (docs/STACK.md). */
+/* Bytes of stack to keep free for a call. Measured, on a painted stack (tests/headers/stack.c): 6,088 for a
+   plain line, and 18,512 at most, for the deepest of 256 bytes, right or wrong (docs/STACK.md). */
 enum {
     RS274_STACK = 24576
 };
@@ -179,6 +179,8 @@ enum {
 struct rs274_answer {
     uint32_t number; /* RS274_ACCEPTED, RS274_SKIPPED, or a refusal, 1 to 16: rs274_why and rs274_remedy tell */
     uint64_t count;  /* commands written to out, eight numbers each; 0 unless accepted */
+    uint64_t place;  /* where the form breaks, in bytes of the line as it was handed over (rs274_numbers.h): put the */
+                     /* cursor there; 0 unless number is RS274_REFUSED_FORM */
     uint64_t work;   /* values and operations worked out, one for each value and each operator of the line: never more */
                      /* than its bytes that are neither blank nor in a comment; 0 unless accepted */
 };

@@ -9,7 +9,7 @@
 
 /* Hundreds go up when something that a firmware relies on changes its meaning, ones when something is added.
    The headers and the libraries of one checkout belong together. */
-#define RS274_VERSION 300
+#define RS274_VERSION 400
 
 enum {
     RS274_LINE = 256,  /* the most bytes that a line may have, without its end marker */
@@ -23,7 +23,13 @@ enum {
    decided after 2, and what else is wrong with the line is not looked for. But /[..] and \[..] are conditions, and
    block delete is nothing to them: such a line must be of right form (3, 16), then the condition is worked out (5 to
    7), and the line is skipped where it says no, whatever else is wrong with it. /[..] says yes where its value is not
-   zero, \[..] where it is zero, which is at most 0.0001 from zero. */
+   zero, \[..] where it is zero, which is at most 0.0001 from zero.
+
+   With RS274_REFUSED_FORM comes a place in the line, so that nobody has to count brackets: the number of bytes in
+   the longest beginning of the line, as it was typed, that some line of right form, however long, also begins with.
+   The byte at that place, counted from 0, is the first with which no right line can go on: put the cursor on it. A
+   line that only ends too early gives its whole length: put the cursor behind its last byte, where more is to be
+   typed. With every other number the place is 0, and it may be 0 with this one: X Y1 has 2, X[1 has 3, ) has 0. */
 enum {
     RS274_ACCEPTED = 0,
     RS274_REFUSED_OUT_OF_ORDER = 1,

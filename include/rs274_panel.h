@@ -18,7 +18,7 @@
 
 #include "rs274_numbers.h"
 
-/* What rs274_form answers: the control's own numbers, so that rs274_why and rs274_remedy tell an operator. */
+/* The number that rs274_form answers: one of the control's own, so that rs274_why and rs274_remedy tell an operator. */
 enum {
     RS274_RIGHT = RS274_ACCEPTED,          /* 0: of right form */
     RS274_TOO_LONG = RS274_REFUSED_LENGTH, /* 2: more than RS274_LINE bytes */
@@ -29,6 +29,12 @@ enum {
    the line: a value within a value is no call within a call here (docs/STACK.md). */
 enum {
     RS274_FORM_STACK = 1024
+};
+
+struct rs274_form_answer {
+    uint32_t number; /* RS274_RIGHT, RS274_TOO_LONG or RS274_WRONG */
+    uint64_t place;  /* where the form breaks, in bytes of the line as it was typed, blanks and comments too */
+                     /* (rs274_numbers.h): put the cursor there; 0 unless number is RS274_WRONG */
 };
 
 #ifdef __cplusplus
@@ -42,7 +48,7 @@ extern "C" {
  * `line` points to `length` bytes that can be read, and is not null, not even for an empty line. They may
  * be any bytes. They are not changed, and nothing of them is kept.
  */
-uint32_t rs274_form(const uint8_t *line, size_t length);
+struct rs274_form_answer rs274_form(const uint8_t *line, size_t length);
 
 #ifdef __cplusplus
 }

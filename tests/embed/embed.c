@@ -153,7 +153,7 @@ static void put_answer(struct rs274_answer answer, const struct lent *lent) {
     uint64_t fit = lent->room / RS274_COMMAND;
     size_t written = RS274_COMMAND * (size_t)(answer.count < fit ? answer.count : fit);
     printf("%lu %llu ", (unsigned long)answer.number, (unsigned long long)answer.count);
-    printf("%llu ", (unsigned long long)answer.work);
+    printf("%llu %llu ", (unsigned long long)answer.place, (unsigned long long)answer.work);
     put_numbers(rec, RS274_RECORD);
     printf(" ");
     put_changes(lent->table_length);

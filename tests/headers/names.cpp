@@ -23,9 +23,14 @@ void hold(const char *what, long long got, long long want) {
     printf("headers: %s: %lld and not %lld\n", what, got, want);
 }
 
+const uint8_t *bytes(const char *line) { return reinterpret_cast<const uint8_t *>(line); }
+
+rs274_answer told(const char *line, size_t room = sizeof out / sizeof *out, bool block_delete = false) {
+    return rs274_line(bytes(line), strlen(line), block_delete, rec, RS274_RECORD, table, RS274_TABLE, out, room);
+}
+
 uint32_t work(const char *line, size_t room = sizeof out / sizeof *out, bool block_delete = false) {
-    const uint8_t *bytes = reinterpret_cast<const uint8_t *>(line);
-    return rs274_line(bytes, strlen(line), block_delete, rec, RS274_RECORD, table, RS274_TABLE, out, room).number;
+    return told(line, room, block_delete).number;
 }
 
 struct Refused {
@@ -122,25 +127,29 @@ void settings() {
     hold("fresh", memcmp(rec, again, sizeof rec), 0);
     hold("a parameter", work("#3=6"), RS274_ACCEPTED);
     hold("its entry", table[3], 6 * RS274_ONE);
-    hold("the fullest line", rs274_line(reinterpret_cast<const uint8_t *>("F1 S1 T1 M6 M3 M8 G4 P1 G0 X1 M2"), 32, false,
-                                        rec, RS274_RECORD, table, RS274_TABLE, out, sizeof out / sizeof *out).count,
-         RS274_COMMANDS);
+    hold("the fullest line", static_cast<long long>(told("F1 S1 T1 M6 M3 M8 G4 P1 G0 X1 M2").count), RS274_COMMANDS);
 }
 
-uint64_t work_of(const char *line) {
-    const uint8_t *bytes = reinterpret_cast<const uint8_t *>(line);
-    return rs274_line(bytes, strlen(line), false, rec, RS274_RECORD, table, RS274_TABLE, out, sizeof out / sizeof *out).work;
+void report(const char *line, long long place, long long work_done) {
+    rs274_answer answer = told(line);
+    hold(line, static_cast<long long>(answer.place), place);
+    hold(line, static_cast<long long>(answer.work), work_done);
 }
 
 void reports() {
-    hold("the work of nothing", static_cast<long long>(work_of("N1 (a comment)")), 0);
-    hold("the work of S[1+2*3]", static_cast<long long>(work_of("S[1+2*3]")), 6);
-    hold("the work of a setting", static_cast<long long>(work_of("#[1]=2")), 3);
-    hold("the work of a refused line", static_cast<long long>(work_of("S[1/0]")), 0);
+    report("N1 (a comment)", 0, 0);
+    report("S[1+2*3]", 0, 6);
+    report("#[1]=2", 0, 3);
+    report("S[1/0]", 0, 0);
+    report("X Y1", 2, 0);
+    report("/[0] X[1", 8, 0);
+    report("\\)", 0, 0); /* skipped, unread */
 }
 
-void form(const char *line, uint32_t want) {
-    hold(line, rs274_form(reinterpret_cast<const uint8_t *>(line), strlen(line)), want);
+void form(const char *line, uint32_t number, long long place) {
+    rs274_form_answer answer = rs274_form(bytes(line), strlen(line));
+    hold(line, answer.number, number);
+    hold(line, static_cast<long long>(answer.place), place);
 }
 
 } // namespace
@@ -151,10 +160,14 @@ int main() {
     texts();
     settings();
     reports();
-    form("G59.4", RS274_RIGHT);
-    form("\\[0] N5 G0", RS274_RIGHT);
-    form("G", RS274_WRONG);
-    hold("257 bytes", rs274_form(reinterpret_cast<const uint8_t *>(table), RS274_LINE + 1), RS274_TOO_LONG);
+    form("G59.4", RS274_RIGHT, 0);
+    form("\\[0] N5 G0", RS274_RIGHT, 0);
+    form("G", RS274_WRONG, 1);
+    form("X Y1", RS274_WRONG, 2);
+    form(")", RS274_WRONG, 0);
+    char line[RS274_LINE + 2] = "";
+    memset(line, ')', RS274_LINE + 1);
+    form(line, RS274_TOO_LONG, 0);
     printf("headers: %d names held in C++, %d wrong\n", tried, wrong);
     return wrong == 0 ? 0 : 1;
 }

@@ -23,7 +23,7 @@ static void work(void) {
                         out, sizeof out / sizeof *out).number;
 }
 
-static void look(void) { number = rs274_form(line, line_length); }
+static void look(void) { number = rs274_form(line, line_length).number; }
 
 /* The bytes that a call has written to, of a painted stack. */
 static size_t depth(void (*call)(void)) {
@@ -80,6 +80,8 @@ static const struct {
     {"open sums", "X", "[1+", "", "", ANY},
     {"open parameters and brackets", "X", "#[", "", "", ANY},
     {"parameters of nothing", "X", "#", "", "", ANY},
+    {"wrong after blanks", "", " ", ")", "", ANY},
+    {"a comment never closed", "(", "a ", "", "", ANY},
     {"24 brackets", "X", "[", "1", "]", DEEPEST},
     {"24 parameters", "X", "#", "1", "", DEEPEST},
     {"24 parameters and brackets", "X", "#[", "1", "]", DEEPEST / 2},

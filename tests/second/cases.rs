@@ -21,6 +21,7 @@ pub struct Case {
 pub struct Answer {
     pub number: u64,
     pub count: usize,
+    pub place: usize,
     pub work: usize,
     pub record: [i64; 43],
     pub changes: Vec<(usize, i64)>,
@@ -36,12 +37,14 @@ pub fn work(case: &Case) -> Answer {
     }
     let (mut table, mut record, mut space) =
         (before.clone(), Record::from_numbers(&case.record), vec![FILLER; case.room]);
-    let Told { number, count, work } = rules::interpret(&case.line, case.switch, &mut record, &mut table, &mut space);
+    let Told { number, count, place, work } =
+        rules::interpret(&case.line, case.switch, &mut record, &mut table, &mut space);
     let pairs = table.iter().copied().enumerate().zip(before);
     let changes = pairs.filter(|(after, before)| after.1 != *before).map(|(after, _)| after).collect();
     let rest = space.split_off(COMMAND_LENGTH * count);
     let kept = rest.iter().all(|&number| number == FILLER);
-    Answer { number: u64::from(number), count, work, record: record.to_numbers(), changes, output: space, kept }
+    let record = record.to_numbers();
+    Answer { number: u64::from(number), count, place, work, record, changes, output: space, kept }
 }
 
 // ---------------------------------------------------------------- Writing
@@ -79,7 +82,7 @@ impl Answer {
     pub fn text(&self) -> String {
         let (record, changes) = (numbers(&self.record), listed(self.changes.iter().copied(), ':'));
         let (output, rest) = (numbers(&self.output), if self.kept { "ok" } else { "changed" });
-        let told = format!("{} {} {}", self.number, self.count, self.work);
+        let told = format!("{} {} {} {}", self.number, self.count, self.place, self.work);
         format!("{told} {record} {} {} {rest}", or_dash(&changes), or_dash(&output))
     }
 }
@@ -108,12 +111,13 @@ pub fn case_of(text: &[u8]) -> Option<Case> {
 /// An answer from its text, likewise.
 pub fn answer_of(text: &[u8]) -> Option<Answer> {
     let columns: Vec<&str> = std::str::from_utf8(text).ok()?.split(' ').collect();
-    let [number, count, work, record, changes, output, rest] = columns[..] else {
+    let [number, count, place, work, record, changes, output, rest] = columns[..] else {
         return None;
     };
     let answer = Answer {
         number: number.parse().ok()?,
         count: count.parse().ok()?,
+        place: place.parse().ok()?,
         work: work.parse().ok()?,
         record: numbers_of(record)?.try_into().ok()?,
         changes: changes_of(changes)?,

@@ -3,6 +3,7 @@
 //! each must be accepted.
 
 use crate::cases::{self, Answer, Case};
+use crate::places;
 use crate::rules::{self, Reading, Record, TABLE_LENGTH};
 use std::fs;
 use std::io::{self, BufRead, Write};
@@ -165,6 +166,107 @@ const FORMS: &[(&[u8], u8)] = &[
     // Form is judged over the whole line before any value.
     (b"X1.23456 G", 3),
     (b"X[1/0]", 0),
+];
+
+/// A line of wrong form, and where it breaks: "the number of bytes in the longest beginning of the line that some line
+/// of right form, of any length, also begins with".
+const PLACES: &[(&[u8], usize)] = &[
+    (b")", 0),
+    (b"  )", 2),
+    (b"%", 0),
+    (b"A1", 0),
+    (b"1", 0),
+    (b"[1]", 0),
+    (b"\xff", 0),
+    (b"M6\r", 2),
+    (b"M6 \0", 3),
+    // Blanks and comments count, as they were typed.
+    (b"X Y1", 2),
+    (b"XY1", 1),
+    (b" x\t y1", 4),
+    (b"X1 Y 2 . 3 . 4", 11),
+    (b"(a)(b) X(c)1", 8),
+    (b"(a b) N1", 6),
+    (b"G1 (c) G(c)1", 8),
+    // "A line that only ends too early gives its whole length."
+    (b"X", 1),
+    (b"X  ", 3),
+    (b"X+", 2),
+    (b"X.", 2),
+    (b"X[1", 3),
+    (b"X[1 ", 4),
+    (b"X[[[", 4),
+    (b"XROUN", 5),
+    (b"Xr o", 4),
+    (b"#1", 2),
+    (b"#1=", 3),
+    (b"#1 = #", 6),
+    (b"N", 1),
+    (b"/N", 2),
+    (b"/[1", 3),
+    (b"G1 (", 4),
+    (b"(a b", 4),
+    (b"X[1M", 4),
+    (b"X[1 X O", 7),
+    // Comments.
+    (b"(a(", 2),
+    (b"(a(b)", 2),
+    (b"(a))", 3),
+    (b"(a\x7fb", 2),
+    (b"(\x80)", 1),
+    (b"N(c)1", 1),
+    (b"#1(c)=2", 2),
+    (b"X[1(c)]", 3),
+    // The mark and the line number.
+    (b"//", 1),
+    (b"/ \\", 2),
+    (b"/(c)[1]", 4),
+    (b"/[1][2]", 4),
+    (b"/[]", 2),
+    (b"/-[1]", 1),
+    (b"\\ [1] [2]", 6),
+    (b"N123456", 6),
+    (b"N 1 2 3 4 5 6", 12),
+    (b"N-1", 1),
+    (b"N1.5", 2),
+    (b"N1N2", 2),
+    (b"N1/", 2),
+    // Numbers and signs.
+    (b"X--1", 2),
+    (b"X1.2.3", 4),
+    (b"X..", 2),
+    (b"X+.A", 3),
+    (b"X-#1", 2),
+    (b"X-[1]", 2),
+    (b"X1e5", 2),
+    (b"X1-", 2),
+    // Parameters, functions, settings.
+    (b"XABS1", 4),
+    (b"XABT", 3),
+    (b"XFOP[1]", 2),
+    (b"XFIP[1]", 3),
+    (b"FIX[1]", 1),
+    (b"X##=", 3),
+    (b"#=1", 1),
+    (b"#1=2=3", 4),
+    (b"#[1]2=3", 4),
+    (b"X#1=2", 3),
+    // Expressions.
+    (b"X[1XY", 4),
+    (b"X[1X1]", 4),
+    (b"X[1MO1]", 5),
+    (b"X[]", 2),
+    (b"X1]", 2),
+    (b"X[1]]", 4),
+    (b"X[1[2]]", 3),
+    (b"X[2**3]", 4),
+    (b"X[1=1]", 3),
+    (b"X[1---2]", 5),
+    (b"X[1+2 A", 7),
+    (b"X[1+2 B", 6),
+    // Nothing later on the line moves it.
+    (b"X1.23456 G", 10),
+    (b"X[1/0] Y Z1 )", 9),
 ];
 
 /// A value written after X, and its ten-thousandths or the number that stops it. Entry 1 is 2,
@@ -731,7 +833,9 @@ const FRAMES: &[(&str, &str)] = &[
 // ---------------------------------------------------------------- Held to the rules alone
 
 fn form_holds(&(line, number): &(&[u8], u8)) -> bool {
-    rules::form(line) == number
+    let (told, place) = rules::form(line);
+    // A right line goes along to its end, and only a right one does.
+    told == number && places::place(line).is_none() == (number == 0) && (number == 3 || place == 0)
 }
 
 fn value_holds((text, expected): &(&str, Result<i64, u8>)) -> bool {
@@ -761,6 +865,8 @@ enum Expected {
     Commands(&'static [[i64; 8]]),
     Field(usize, i64),
     Entry(usize, i64),
+    /// A wrong form, and where it breaks.
+    Place(usize),
     Work(usize),
 }
 
@@ -773,7 +879,7 @@ struct Example {
 
 impl Example {
     fn holds(&self, answer: &Answer) -> bool {
-        let Answer { number, count, work, ref record, ref changes, ref output, kept } = *answer;
+        let Answer { number, count, place, work, ref record, ref changes, ref output, kept } = *answer;
         let unchanged = *record == self.case.record && changes.is_empty() && output.is_empty();
         let entry_after = |number: usize| {
             let held = changes.iter().chain(self.case.changes.iter()).find(|change| change.0 == number);
@@ -785,10 +891,12 @@ impl Example {
             Expected::Commands(commands) => number == 0 && *output == commands.concat(),
             Expected::Field(place, wanted) => record[place] == wanted,
             Expected::Entry(number, wanted) => entry_after(number) == wanted,
+            Expected::Place(wanted) => number == 3 && place == wanted,
             Expected::Work(wanted) => work == wanted,
         };
         let bounded = work <= bare_bytes(&self.case.line) && (number == 0 || work == 0);
-        as_told && bounded && kept && output.len() == 8 * count && (number == 0 || unchanged)
+        let placed = if number == 3 { place <= self.case.line.len() } else { place == 0 };
+        as_told && bounded && placed && kept && output.len() == 8 * count && (number == 0 || unchanged)
     }
 }
 
@@ -906,6 +1014,11 @@ fn examples() -> Vec<Example> {
         Example { table: "form", case: Case { switch, ..usual(line) }, expected: Expected::Form(form) }
     };
     all.extend(FORMS.iter().map(form));
+    let place = |&(line, place): &(&[u8], usize)| {
+        let switch = line.trim_ascii_start().first() == Some(&b'\\');
+        Example { table: "place", case: Case { switch, ..usual(line) }, expected: Expected::Place(place) }
+    };
+    all.extend(PLACES.iter().map(place));
     all.extend(VALUES.iter().map(value_example));
     for &(before, line, number) in NUMBERS {
         all.extend(session("number", before, line, Expected::Number(number)));

@@ -4,6 +4,7 @@ mod cases;
 mod codes;
 mod examples;
 mod generate;
+mod places;
 mod rules;
 
 use cases::listed;
@@ -39,7 +40,10 @@ fn run(arguments: &[String], out: &mut impl Write) -> io::Result<bool> {
     match words[..] {
         ["frames"] => frames(input, out, "")?,
         ["frames", "--each"] => frames(input, out, ".\n")?,
-        ["forms"] => each_line(input, |line| writeln!(out, "{}", rules::form(line)))?,
+        ["forms"] => each_line(input, |line| {
+            let (number, place) = rules::form(line);
+            writeln!(out, "{number} {place}")
+        })?,
         ["readings"] => readings(input, out)?,
         ["answers"] => return answers(input, out),
         ["tally"] => return tally(input, out),
@@ -216,13 +220,14 @@ const LEAST: u64 = 50;
 /// How often each number, and each command kind, occurs among these answers; false if one of them is
 /// seen too seldom for a comparison to say much, or if an answer cannot be read.
 fn tally(input: impl BufRead, out: &mut impl Write) -> io::Result<bool> {
-    let (mut by_number, mut by_kind, mut unread) = ([0_u64; 101], [0_u64; 12], 0_u64);
+    let (mut by_number, mut by_kind, mut placed, mut unread) = ([0_u64; 101], [0_u64; 12], 0_u64, 0_u64);
     each_line(input, |text| {
         let Some(answer) = cases::answer_of(text) else {
             unread += 1;
             return Ok(());
         };
         by_number[(answer.number as usize).min(99 + usize::from(answer.number == 100))] += 1;
+        placed += u64::from(answer.place > 0);
         for command in answer.output.chunks_exact(COMMAND_LENGTH) {
             by_kind[command[0].clamp(0, 11) as usize] += 1;
         }
@@ -233,11 +238,12 @@ fn tally(input: impl BufRead, out: &mut impl Write) -> io::Result<bool> {
     let kinds: Vec<String> = (1..12).map(|kind| format!("{kind}:{}", by_kind[kind])).collect();
     writeln!(out, "numbers {}", numbers.join(" "))?;
     writeln!(out, "kinds {}", kinds.join(" "))?;
+    writeln!(out, "places above 0: {placed}")?;
     let often = |times: &u64| *times >= LEAST;
     // "4 is kept in the list and shown never to occur".
     let given = by_number[..=16].iter().enumerate().filter(|&(number, _)| number != 4);
     let seen = given.map(|(_, times)| times).all(often) && often(&by_number[100]) && by_kind[1..].iter().all(often);
-    let seen = seen && by_number[4] == 0;
+    let seen = seen && by_number[4] == 0 && often(&placed);
     if !seen || unread > 0 {
         writeln!(out, "each but 4 must occur at least {LEAST} times, 4 never; {unread} answers cannot be read")?;
     }

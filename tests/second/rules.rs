@@ -6,6 +6,7 @@
 //! Values are ten-thousandths of a program unit, lengths are counts of 10 nm, and a code is held
 //! as ten times what is written (G59.1 is 591).
 
+use crate::places;
 use std::iter::repeat;
 
 // ---------------------------------------------------------------- What the control takes
@@ -458,15 +459,25 @@ fn ten_thousandths(whole: &[u8], decimals: &[u8]) -> i64 {
     (cut + i64::from(half)).min(VALUE_LIMIT + 1)
 }
 
-/// "gets one number: 0, 2 or 3, for length and form only."
-pub fn form(line: &[u8]) -> u8 {
-    if line.len() > LONGEST_LINE {
+/// "gets one number: 0, 2 or 3, for length and form only." Ticket 2: "The panel gets the place too, as a second
+/// number, 0 unless 3."
+pub fn form(line: &[u8]) -> (u8, usize) {
+    let number = if line.len() > LONGEST_LINE {
         2
     } else if derive(line).is_none() {
         3
     } else {
         ACCEPTED
+    };
+    (number, place(number, line))
+}
+
+/// The place that a line's number carries. That both recognisers of this program take the same lines is seen to here.
+fn place(number: u8, line: &[u8]) -> usize {
+    if number != 3 {
+        return 0;
     }
+    places::place(line).expect("a line without a derivation is one that no way goes along to its end")
 }
 
 // ---------------------------------------------------------------- Arithmetic
@@ -1085,20 +1096,22 @@ fn skips_unread(line: &[u8], switch: bool) -> bool {
     marked && bytes.next() != Some(b'[')
 }
 
-/// What a line is answered with: its number, how many commands it wrote, and the values and operations worked out.
+/// What a line is answered with: its number, how many commands it wrote, where its form breaks, and the values and
+/// operations worked out.
 #[derive(Clone, Copy, PartialEq, Eq)]
 pub struct Told {
     pub number: u8,
     pub count: usize,
+    pub place: usize,
     pub work: usize,
 }
 
 /// One line. "Every refusal and skip returns count 0 and leaves record, table and output unchanged; acceptance
 /// leaves output past the commands unchanged." Ticket 12: "Every accepted line reports the values and operations
-/// worked out ..; others report 0."
+/// worked out ..; others report 0." Ticket 2: "Refusal 3 also gives a place".
 pub fn interpret(line: &[u8], switch: bool, record: &mut Record, table: &mut [i64], out: &mut [i64]) -> Told {
     match judge(line, switch, record, table, out.len()) {
-        Err(number) => Told { number, count: 0, work: 0 },
+        Err(number) => Told { number, count: 0, place: place(number, line), work: 0 },
         Ok(Accepted { effect, settings, work }) => {
             *record = effect.record;
             // "settings apply afterwards, in order, the last winning."
@@ -1108,7 +1121,7 @@ pub fn interpret(line: &[u8], switch: bool, record: &mut Record, table: &mut [i6
             for (place, command) in out.chunks_exact_mut(COMMAND_LENGTH).zip(&effect.commands) {
                 place.copy_from_slice(command);
             }
-            Told { number: ACCEPTED, count: effect.commands.len(), work }
+            Told { number: ACCEPTED, count: effect.commands.len(), place: 0, work }
         }
     }
 }

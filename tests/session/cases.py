@@ -24,6 +24,12 @@ CODE = 'number 8: a G or M code is not served; use a code that this control serv
 CHANGE = 'change tool, spindle off\n'
 Z = 'feed 10000000\nfeed to X0 Y0 Z-300000\nfeed to X5000000 Y0 Z-300000\n'
 
+
+def broken_form(shown, place):
+    """What is said of a wrong form: the line, and a caret under its place."""
+    return f'{FORM}\n{shown}\n{" " * place}^'
+
+
 # What is on standard input; what is written; the line that is refused, and how (or none).
 CASES = [
     (b'', '', None, None),
@@ -43,19 +49,19 @@ CASES = [
     # a condition skips or runs a line without it, or refuses it
     (b'/[0]M6\n\\[0.0001]M9\n/[#1]G59.4\n', 'coolant off\n', None, None),
     (b'#1=1\n/[#1]M6\n/[1]G59.4\n', CHANGE, 3, CODE),
-    (b'M6\n/[0]X\n', CHANGE, 2, FORM),
+    (b'M6\n/[0]X\n', CHANGE, 2, broken_form('/[0]X', 5)),
     (b'M6\n\\[1/0]\n', CHANGE, 2, DIVISOR),
     # one carriage return, and only before a line feed
     (b'M6\r\n', CHANGE, None, None),
-    (b'M6\r\r\n', '', 1, FORM),
-    (b'M6\n\r', CHANGE, 2, FORM),
-    (b'M6\r', '', 1, FORM),
+    (b'M6\r\r\n', '', 1, broken_form('M6?', 2)),
+    (b'M6\n\r', CHANGE, 2, broken_form('?', 0)),
+    (b'M6\r', '', 1, broken_form('M6?', 2)),
     (b'\r\n\r\nM6', CHANGE, None, None),
-    (b'M6\rM6\n', '', 1, FORM),
+    (b'M6\rM6\n', '', 1, broken_form('M6?M6', 2)),
     # a last line without a line feed
     (b'M6\nM9', CHANGE + 'coolant off\n', None, None),
     (b'M6\n ', CHANGE, None, None),
-    (b'M6\nM', CHANGE, 2, FORM),
+    (b'M6\nM', CHANGE, 2, broken_form('M', 1)),
     # long lines
     (b'M6'.ljust(256) + b'\n', CHANGE, None, None),
     (b'M6'.ljust(256) + b'\r\n', CHANGE, None, None),
@@ -66,8 +72,15 @@ CASES = [
     (b'M6'.ljust(256) + b'\r', '', 1, LENGTH),
     (b'M9\n' + b'M6' * 100000 + b'\nM9\n', 'coolant off\n', 2, LENGTH),
     # bytes that no text has
-    (b'M6\x00\nM9\n', '', 1, FORM),
-    (b'M6\xff\nM9\n', '', 1, FORM),
+    (b'M6\x00\nM9\n', '', 1, broken_form('M6?', 2)),
+    (b'M6\xff\nM9\n', '', 1, broken_form('M6?', 2)),
+    # a caret under the byte at which a form breaks, blanks and comments counted, or behind a line that ends too early
+    (b'X Y1\n', '', 1, broken_form('X Y1', 2)),
+    (b'N123456\n', '', 1, broken_form('N123456', 6)),
+    (b'\tG1\t(a comment)\tX[1XY\n', '', 1, broken_form(' G1 (a comment) X[1XY', 20)),
+    (b')\n', '', 1, broken_form(')', 0)),
+    (b'X[1 + \r\n', '', 1, broken_form('X[1 + ', 6)),
+    (b'M6' + b' ' * 253 + b'X', '', 1, broken_form('M6' + ' ' * 253 + 'X', 256)),
 ]
 
 

@@ -14,7 +14,7 @@ use lib.IntN.{ℤ}
 use borrow.Author.Tests.{le-ltb, lt-ltb, eq-eqb, ne-eqb}
 use Rattle.laws.proofs.Bools.{T-eq, not-eq}
 use Rattle.grammar.specs.Grammar.{Line}
-use Rattle.grammar.specs.Derivation.{Derives}
+use Rattle.grammar.specs.Derivation.{Derives, Form, derived, breaksAt}
 use Rattle.grammar.specs.Working.{Took, end, stopped, took, Contents, contents}
 use Rattle.grammar.proofs.Lengths.{few}
 use Rattle.rules.specs.Numbers.{inRange}
@@ -23,7 +23,7 @@ use Rattle.rules.specs.Block.{blockOf}
 use Rattle.rules.specs.Reach.{inOrder}
 use Rattle.rules.specs.Steps.{ready}
 use Rattle.rules.specs.Refusals.{Case, _when_, first, refusals}
-use Rattle.rules.specs.Promise.{After, Right, after, answer, answerTo, leaving, worth, byNumber, disorder, unread, tooDeep}
+use Rattle.rules.specs.Promise.{After, Right, after, answer, answerTo, leaving, misformed, accepted, byNumber, disorder, unread, tooDeep}
 use Rattle.rules.proofs.Demands.{lacking}
 use Rattle.rules.specs.declared.Block.{Block}
 use Rattle.rules.specs.declared.Record.{Record}
@@ -35,7 +35,7 @@ use Rattle.reader.specs.declared.line.Reading.{Reading}
 use Rattle.reader.specs.declared.line.Reading.the-variants.{Read, Stopped, Deep, Wrong, TooLong}
 use Rattle.summary.specs.Words.{said, lettered}
 use Rattle.block.specs.Execution.{allInRange, Done, done, doneBy, executed, execution}
-use Rattle.control.specs.Worked.{judgedAs, stoppedAs, unchanged, settingsOf, tableAfter, workDone, finished, workedBy, worked, notRead, lentAfter, Lends}
+use Rattle.control.specs.Worked.{judgedAs, stoppedAs, unchanged, wrongAt, settingsOf, tableAfter, workDone, finished, workedBy, worked, notRead, lentAfter, Lends}
 use Rattle.rules.proofs.Sound.{SoundTook, line-sound}
 use Rattle.reader.proofs.Demand3.{line-counts}
 use Rattle.control.proofs.Words.{line-lettered}
@@ -98,30 +98,30 @@ not-stopped e (inl n) h = absurd (let z : stopOf (stopped 100) ≡ none = rw n a
 not-stopped e (inr s) h = s
 
 -- ---- the numbers 8 to 15
-finished-by : (n : ℕ) (e : Contents Entry) (b : Block) (r : Record) (table out : List ℤ) → (n ≡ 100 → ⊥) → finished (e .work) (doneBy n b r out) (settings (e .entries)) table ≡ byNumber n e b r table out
-finished-by n e b r table out h = rw (ne-eqb n 100 h) (go (eqb n 0))
+finished-by : (n place : ℕ) (e : Contents Entry) (b : Block) (r : Record) (table out : List ℤ) → (n ≡ 100 → ⊥) → (n ≡ 3 → ⊥) → finished (e .work) (doneBy n b r out) (settings (e .entries)) table ≡ byNumber n place e b r table out
+finished-by n place e b r table out h w = rw (ne-eqb n 100 h, ne-eqb n 3 w) (go (eqb n 0))
   where
-    go : (c : Bool) → finished (e .work) (cond c (doneBy 0 b r out) (done (Refused n) r out)) (settings (e .entries)) table ≡ cond c (byNumber 0 e b r table out) (leaving (cond c (Accepted 0) (Refused n)) r table out)
+    go : (c : Bool) → finished (e .work) (cond c (doneBy 0 b r out) (done (Refused n) r out)) (settings (e .entries)) table ≡ cond c (accepted e b r table out) (leaving (cond c (Accepted 0) (Refused n)) r table out)
     go true = refl
     go false = refl
 
 -- the numbers 5 to 7, and a condition's 100
-refused-by : (k : ℕ) → 5 ≤ k → k ≤ 7 → (cs : List Case) (e : Contents Entry) (b : Block) (r : Record) (table out : List ℤ) →
-    byNumber (first ((100 when eqb k 100) ∷ (4 when eqb k 4) ∷ (5 when eqb k 5) ∷ (6 when eqb k 6) ∷ (7 when eqb k 7) ∷ cs)) e b r table out ≡ leaving (stoppedAs k) r table out
-refused-by zero l h cs e b r table out = absurd (omega arith)
-refused-by (suc zero) l h cs e b r table out = absurd (omega arith)
-refused-by (suc (suc zero)) l h cs e b r table out = absurd (omega arith)
-refused-by (suc (suc (suc zero))) l h cs e b r table out = absurd (omega arith)
-refused-by (suc (suc (suc (suc zero)))) l h cs e b r table out = absurd (omega arith)
-refused-by (suc (suc (suc (suc (suc zero))))) l h cs e b r table out = refl
-refused-by (suc (suc (suc (suc (suc (suc zero)))))) l h cs e b r table out = refl
-refused-by (suc (suc (suc (suc (suc (suc (suc zero))))))) l h cs e b r table out = refl
-refused-by (suc (suc (suc (suc (suc (suc (suc (suc k)))))))) l h cs e b r table out = absurd (omega arith)
+refused-by : (k : ℕ) → 5 ≤ k → k ≤ 7 → (cs : List Case) (place : ℕ) (e : Contents Entry) (b : Block) (r : Record) (table out : List ℤ) →
+    byNumber (first ((100 when eqb k 100) ∷ (4 when eqb k 4) ∷ (5 when eqb k 5) ∷ (6 when eqb k 6) ∷ (7 when eqb k 7) ∷ cs)) place e b r table out ≡ leaving (stoppedAs k) r table out
+refused-by zero l h cs place e b r table out = absurd (omega arith)
+refused-by (suc zero) l h cs place e b r table out = absurd (omega arith)
+refused-by (suc (suc zero)) l h cs place e b r table out = absurd (omega arith)
+refused-by (suc (suc (suc zero))) l h cs place e b r table out = absurd (omega arith)
+refused-by (suc (suc (suc (suc zero)))) l h cs place e b r table out = absurd (omega arith)
+refused-by (suc (suc (suc (suc (suc zero))))) l h cs place e b r table out = refl
+refused-by (suc (suc (suc (suc (suc (suc zero)))))) l h cs place e b r table out = refl
+refused-by (suc (suc (suc (suc (suc (suc (suc zero))))))) l h cs place e b r table out = refl
+refused-by (suc (suc (suc (suc (suc (suc (suc (suc k)))))))) l h cs place e b r table out = absurd (omega arith)
 
-stopped-by : (k : ℕ) → (k ≡ 100) ⊎ ((5 ≤ k) × (k ≤ 7)) → (cs : List Case) (e : Contents Entry) (b : Block) (r : Record) (table out : List ℤ) →
-    byNumber (first ((100 when eqb k 100) ∷ (4 when eqb k 4) ∷ (5 when eqb k 5) ∷ (6 when eqb k 6) ∷ (7 when eqb k 7) ∷ cs)) e b r table out ≡ leaving (stoppedAs k) r table out
-stopped-by k (inl n) cs e b r table out = rw n
-stopped-by k (inr n) cs e b r table out = refused-by k (n .0) (n .1) cs e b r table out
+stopped-by : (k : ℕ) → (k ≡ 100) ⊎ ((5 ≤ k) × (k ≤ 7)) → (cs : List Case) (place : ℕ) (e : Contents Entry) (b : Block) (r : Record) (table out : List ℤ) →
+    byNumber (first ((100 when eqb k 100) ∷ (4 when eqb k 4) ∷ (5 when eqb k 5) ∷ (6 when eqb k 6) ∷ (7 when eqb k 7) ∷ cs)) place e b r table out ≡ leaving (stoppedAs k) r table out
+stopped-by k (inl n) cs place e b r table out = rw n
+stopped-by k (inr n) cs place e b r table out = refused-by k (n .0) (n .1) cs place e b r table out
 
 -- what a test has shown of what it is the test of
 pub by-test : {x y b : Bool} → x ≡ y → x ≡ b → y ≡ b
@@ -129,8 +129,8 @@ by-test e t = sym e ∙ t
 
 -- ---- the numbers before the form is read
 module _ (line : List ℕ) (switch : Bool) (r : Record) (table out : List ℤ) where
-  by-early : {x : After} → ((e : Option (Contents Entry)) → answerTo e line switch r table out ≡ x) → Right line switch r table out x
-  by-early h = record { byTree = λ t d. sym (h (reading table (some t))); byNone = λ _. sym (h none) }
+  by-early : {x : After} → ((e : Form (Contents Entry)) → answerTo e line switch r table out ≡ x) → Right line switch r table out x
+  by-early h = record { byTree = λ t d. sym (h (reading table (derived t))); byPlace = λ _ n _. sym (h (breaksAt n)) }
 
   kept-1 : disorder r table ≡ true → Right line switch r table out (leaving (Refused 1) r table out)
   unfolding answerTo
@@ -179,35 +179,35 @@ module _ (line : List ℕ) (switch : Bool) (r : Record) (table out : List ℤ) (
   ordered = no-disorder line switch r table out sized in-order
 
   -- a line without a derivation
-  underived-answer : answerTo none line switch r table out ≡ leaving (Refused 3) r table out
+  underived-answer : (n : ℕ) → answerTo (breaksAt n) line switch r table out ≡ misformed n r table out
   unfolding answerTo
-  underived-answer = rw (ordered, le-ltb 256 (length line) short, unskipped)
+  underived-answer n = rw (ordered, le-ltb 256 (length line) short, unskipped)
 
   -- a reading that was stopped
   stopped-answer : (c : Contents Entry) → tooDeep c ≡ false → (c .entries ≡ stopped 100) ⊎ SoundTook (c .entries) → (k : ℕ) → stopOf (c .entries) ≡ some k →
-      answerTo (some c) line switch r table out ≡ leaving (stoppedAs k) r table out
+      answerTo (derived c) line switch r table out ≡ leaving (stoppedAs k) r table out
   unfolding answerTo
   stopped-answer c d s k h =
       let ws = words (c .entries) in
       let b = blockOf ws in
       let n = stop-by (c .entries) s k h in
-      rw (ordered, le-ltb 256 (length line) short, unskipped, d, stop-is (c .entries) k h) (stopped-by k n (refusals ws b (ready b r) (length out)) c b r table out)
+      rw (ordered, le-ltb 256 (length line) short, unskipped, d, stop-is (c .entries) k h) (stopped-by k n (refusals ws b (ready b r) (length out)) 0 c b r table out)
 
   -- a reading that nests too deep
-  deep-answer : (c : Contents Entry) → tooDeep c ≡ true → answerTo (some c) line switch r table out ≡ leaving (Refused 16) r table out
+  deep-answer : (c : Contents Entry) → tooDeep c ≡ true → answerTo (derived c) line switch r table out ≡ leaving (Refused 16) r table out
   unfolding answerTo
   deep-answer c d = rw (ordered, le-ltb 256 (length line) short, unskipped, d)
 
   -- a reading that came to the line's end
   whole-answer : (c : Contents Entry) → tooDeep c ≡ false → lettered (words (c .entries)) ≡ words (c .entries) → SoundTook (c .entries) → stopOf (c .entries) ≡ none →
-      answerTo (some c) line switch r table out ≡ finished (c .work) (execution (lettersOf (words (c .entries))) (valuesOf (words (c .entries))) r out) (settings (c .entries)) table
+      answerTo (derived c) line switch r table out ≡ finished (c .work) (execution (lettersOf (words (c .entries))) (valuesOf (words (c .entries))) r out) (settings (c .entries)) table
   unfolding answerTo execution executed
   whole-answer c d l s h =
       let ws = words (c .entries) in
       let b = blockOf ws in
       let cs = refusals ws b (ready b r) (length out) in
       rw (ordered, le-ltb 256 (length line) short, unskipped, d, stop-none (c .entries) h, in-order, in-range (c .entries) s, said-back ws, l)
-      (sym (finished-by (first cs) c b r table out (λ q. lacking 100 cs tt q)))
+      (sym (finished-by (first cs) 0 c b r table out (λ q. lacking 100 cs tt q) (λ q. lacking 3 cs tt q)))
 
   module _ (old : Spaces) (roomWords : length (old .letters) ≡ 128) (roomValues : length (old .values) ≡ 128) (roomNumbers : length (old .numbers) ≡ 64) (roomAmounts : length (old .amounts) ≡ 64) where
     -- what was stored of a whole reading is worked as the reading itself
@@ -222,7 +222,7 @@ module _ (line : List ℕ) (switch : Bool) (r : Record) (table out : List ℤ) (
         let d : take (length ss) (stored e old .amounts) ≡ map (λ (x : Setting). x .value) ss = rw (← length-map (λ (x : Setting). x .value) ss) (front (map (λ (x : Setting). x .value) ss) (old .amounts) (omega (arith, length-map (λ (x : Setting). x .value) ss))) in
         rw (h, a, b, c, d, settings-back ss)
 
-    tree-answer : (t : Line) → Derives t line → worked (leaves table old t) r table out ≡ answer (some t) line switch r table out
+    tree-answer : (t : Line) → Derives t line → worked (leaves table old (derived t)) r table out ≡ answer (derived t) line switch r table out
     unfolding worked
     tree-answer t d =
         let m = line-counts table t in
@@ -230,7 +230,7 @@ module _ (line : List ℕ) (switch : Bool) (r : Record) (table out : List ℤ) (
         go (contents (arithmetic table) t) (line-lettered table t (d .ok)) (line-sound table t) (omega (arith, m .0, k .0)) (omega (arith, m .1, k .1)) (tooDeep (contents (arithmetic table) t)) refl (stopOf (contents (arithmetic table) t .entries)) refl
       where
         go : (c : Contents Entry) → lettered (words (c .entries)) ≡ words (c .entries) → (c .entries ≡ stopped 100) ⊎ SoundTook (c .entries) → length (words (c .entries)) ≤ 128 → length (settings (c .entries)) ≤ 64
-            → (b : Bool) → tooDeep c ≡ b → (o : Option ℕ) → stopOf (c .entries) ≡ o → worked (leftFor c old) r table out ≡ answerTo (some c) line switch r table out
+            → (b : Bool) → tooDeep c ≡ b → (o : Option ℕ) → stopOf (c .entries) ≡ o → worked (leftFor c old) r table out ≡ answerTo (derived c) line switch r table out
         go c l s w n true q o h = rw (q, in-order) (sym (deep-answer c q))
         go c l s w n false q none h = rw q (stored-answer (c .entries) (c .work) w n h ∙ sym (whole-answer c q l (not-stopped (c .entries) s h) h))
         go c l s w n false q (some k) h = rw (q, h, in-order) (sym (stopped-answer c q s k h))
@@ -239,8 +239,8 @@ module _ (line : List ℕ) (switch : Bool) (r : Record) (table out : List ℤ) (
     kept-in-order : {a : Reading} {lent : Spaces} → Reads line table old a lent → Right line switch r table out (workedBy a lent r table out)
     unfolding worked
     kept-in-order {a} {lent} p = record {
-      byTree = λ t d. ap (λ (l : Left). worked l r table out) (p .byTree short t d) ∙ tree-answer t d;
-      byNone = λ h. ap (λ (l : Left). worked l r table out) (p .byNone short h .is) ∙ rw in-order (sym underived-answer);
+      byTree = λ t d. ap (λ (l : Left). worked l r table out) (p .byForm short .byTree t d) ∙ tree-answer t d;
+      byPlace = λ h n w. ap (λ (l : Left). worked l r table out) (p .byForm short .byPlace h n w) ∙ rw in-order (sym (underived-answer n));
     }
 
 module _ (line : List ℕ) (switch : Bool) (r : Record) (table out : List ℤ) (sized : length table ≡ 5000) (short : length line ≤ 256) (unskipped : unread switch line ≡ false) (old : Spaces) (roomWords : length (old .letters) ≡ 128) (roomValues : length (old .values) ≡ 128) (roomNumbers : length (old .numbers) ≡ 64) (roomAmounts : length (old .amounts) ≡ 64) where
@@ -254,21 +254,25 @@ module _ (line : List ℕ) (switch : Bool) (r : Record) (table out : List ℤ) (
 
   -- read to its end, and worked
   pub kept-read : {w n k : ℕ} {lent : Spaces} → Reads line table old (Read w n k) lent → {o : Report} {table′ out′ : List ℤ} →
-      record { outcome = o .outcome; out = out′ } ≡ execution (take w (lent .letters)) (take w (lent .values)) r out → o .work ≡ workDone (o .outcome .answer) k →
+      record { outcome = o .outcome; out = out′ } ≡ execution (take w (lent .letters)) (take w (lent .values)) r out → o .work ≡ workDone (o .outcome .answer) k → o .place ≡ 0 →
       table′ ≡ tableAfter (o .outcome .answer) (settingsOf (take n (lent .numbers)) (take n (lent .amounts))) table → Right line switch r table out (after o table′ out′)
-  kept-read {w} {n} {k} {lent} p {o} {table′} {out′} e m h =
-      kept p (ap₂ (λ (work : ℕ) (t : List ℤ). worth work (o .outcome .answer) (o .outcome .rec) t out′) m h ∙ ap (λ (d : Done). finished k d (settingsOf (take n (lent .numbers)) (take n (lent .amounts))) table) e)
+  kept-read {w} {n} {k} {lent} p {o} {table′} {out′} e m l h =
+      kept p (rw (m, l, h) refl ∙ ap (λ (d : Done). finished k d (settingsOf (take n (lent .numbers)) (take n (lent .amounts))) table) e)
 
   -- not worked, by what was read
   pub kept-as : {a : Reading} {lent : Spaces} → Reads line table old a lent → (k : Answer) → workedBy a lent r table out ≡ leaving (judgedAs k r) r table out → {o : Report} →
       o ≡ unchanged (judgedAs k r) r → Right line switch r table out (after o table out)
   kept-as p k w h = kept p (ap (λ (o : Report). after o table out) h ∙ sym w)
 
+  -- a wrong form
+  pub kept-wrong : {place : ℕ} {lent : Spaces} → Reads line table old (Wrong place) lent → {o : Report} → o ≡ wrongAt place r → Right line switch r table out (after o table out)
+  kept-wrong p h = kept p (ap (λ (o : Report). after o table out) h)
+
 -- ---- the lent spaces
 module _ (line : List ℕ) (switch : Bool) (table : List ℤ) (old : Spaces) where
   lends-old : notRead line switch table ≡ true → Lends line switch table old old
   unfolding lentAfter
-  lends-old u = record { byTree = λ t d. rw u; byNone = λ h. rw u }
+  lends-old u = record { byTree = λ t d. rw u; byPlace = λ h n w. rw u }
 
   pub lends-table : (length table ≡ 5000 → ⊥) → Lends line switch table old old
   lends-table z = lends-old (rw (ne-eqb (length table) 5000 z))
@@ -284,4 +288,4 @@ module _ (line : List ℕ) (switch : Bool) (table : List ℤ) (old : Spaces) whe
     unfolding lentAfter
     lends-read l s p =
         let u : notRead line switch table ≡ false = rw (eq-eqb (length table) 5000 sized, le-ltb 256 (length line) l, s) in
-        record { byTree = λ t d. rw u (ap (λ (x : Left). x .lent) (p .byTree l t d)); byNone = λ h. rw u (ap (λ (x : Left). x .lent) (p .byNone l h .is)) }
+        record { byTree = λ t d. rw u (ap (λ (x : Left). x .lent) (p .byForm l .byTree t d)); byPlace = λ h n w. rw u (ap (λ (x : Left). x .lent) (p .byForm l .byPlace h n w)) }

@@ -13,7 +13,7 @@ pub interpret-sole : Sole interpret.ended (λ M. interpret.clauses)
 interpret-sole = record {
   says = _;
   is = λ M 𝓤 H A mem run κs a ghost r e. refl;
-  one = λ κs a r r′ ws ws′ p q. let e = by-form-sole p q in (λ i. record { outcome = e i .outcome; work = e i .work }, λ i. (tt, (tt, (tt, (e i .table, (e i .out, tt))))));
+  one = λ κs a r r′ ws ws′ p q. let e = by-form-sole p q in (λ i. record { outcome = e i .outcome; work = e i .work; place = e i .place }, λ i. (tt, (tt, (tt, (e i .table, (e i .out, tt))))));
 }
 
 pub interpretIn-sole : Sole interpretIn.ended (λ M. interpretIn.clauses)
@@ -23,7 +23,7 @@ interpretIn-sole = record {
   one = λ κs a r r′ ws ws′ p q.
       let e = by-form-sole (p .0) (q .0) in
       let l = by-form-sole (p .1) (q .1) in
-      (λ i. record { outcome = e i .outcome; work = e i .work }, λ i. (tt, (tt, (tt, (e i .table, (e i .out, (l i .letters, (l i .values, (l i .numbers, (l i .amounts, tt))))))))));
+      (λ i. record { outcome = e i .outcome; work = e i .work; place = e i .place }, λ i. (tt, (tt, (tt, (e i .table, (e i .out, (l i .letters, (l i .values, (l i .numbers, (l i .amounts, tt))))))))));
 }
 
 pub step-sole : Sole step.ended (λ M. step.clauses)
@@ -33,12 +33,12 @@ step-sole = record {
   one = λ κs a r r′ ws ws′ p q.
       let e = by-form-sole (p .0) (q .0) in
       let h = p .1 ∙ ap (λ (x : After). x .outcome .rec) e ∙ sym (q .1) in
-      (λ i. record { outcome = e i .outcome; work = e i .work }, λ i. (tt, (tt, (h i, (e i .table, (e i .out, tt))))));
+      (λ i. record { outcome = e i .outcome; work = e i .work; place = e i .place }, λ i. (tt, (tt, (h i, (e i .table, (e i .out, tt))))));
 }
 
 pub work-sole : Sole work.ended (λ M. work.clauses)
 work-sole = record {
   says = _;
   is = λ M 𝓤 H A mem run κs a ghost r e. refl;
-  one = λ κs a r r′ ws ws′ p q. let e = by-form-sole p q in (λ i. record { outcome = e i .outcome; work = e i .work }, λ i. (tt, (tt, (tt, (e i .table, (e i .out, tt))))));
+  one = λ κs a r r′ ws ws′ p q. let e = by-form-sole p q in (λ i. record { outcome = e i .outcome; work = e i .work; place = e i .place }, λ i. (tt, (tt, (tt, (e i .table, (e i .out, tt))))));
 }

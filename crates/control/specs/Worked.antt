@@ -2,21 +2,20 @@
 -- Assumes nothing.
 use mathlib.Core.Bool.{Bool, cond, not, _||_}
 use mathlib.Core.List.{List, [], _∷_}
-use mathlib.Core.Option.{Option, none, some}
 use Prim.Native.Nat.{ℕ}
 use lib.Dec.{eqb, ltb}
 use lib.IntN.{ℤ}
 use lib.ListN.{length, take}
 use Rattle.grammar.specs.Grammar.{Line}
-use Rattle.grammar.specs.Derivation.{ByForm}
+use Rattle.grammar.specs.Derivation.{Form, ByForm}
 use Rattle.rules.specs.Meaning.{Setting}
 use Rattle.rules.specs.Reach.{inOrder}
-use Rattle.rules.specs.Promise.{After, worth, leaving, apply, unread}
+use Rattle.rules.specs.Promise.{After, after, worth, leaving, apply, unread}
 use Rattle.rules.specs.declared.Record.{Record}
 use Rattle.rules.specs.declared.Report.{Report}
 use Rattle.rules.specs.declared.Answer.{Answer}
 use Rattle.rules.specs.declared.Answer.the-variants.{Accepted, Refused, Skipped}
-use Rattle.reader.specs.Reading.{Spaces, Left, zeros, leaves}
+use Rattle.reader.specs.Reading.{Spaces, Left, leaves}
 use Rattle.reader.specs.declared.line.Reading.{Reading}
 use Rattle.reader.specs.declared.line.Reading.the-variants.{Read, Stopped, Deep, Wrong, TooLong}
 use Rattle.block.specs.Execution.{Done, execution}
@@ -31,7 +30,11 @@ stoppedAs k = cond (eqb k 100) Skipped (Refused k)
 
 -- an answer that changes nothing: "others report 0"
 abbrev pub unchanged : Answer → Record → Report
-unchanged a r = record { outcome = record { answer = a; rec = r }; work = 0 }
+unchanged a r = record { outcome = record { answer = a; rec = r }; work = 0; place = 0 }
+
+-- a wrong form: its place is told, unless number 1 comes before it
+abbrev pub wrongAt : ℕ → Record → Report
+wrongAt place r = record { outcome = record { answer = judgedAs (Refused 3) r; rec = r }; work = 0; place = cond (inOrder r) place 0 }
 
 -- settings by their parameter numbers and their values, side by side
 abbrev pub settingsOf : List ℕ → List ℤ → List Setting
@@ -61,7 +64,7 @@ workedBy (Read w n work) sp r table out =
     finished work (execution (take w (sp .letters)) (take w (sp .values)) r out) (settingsOf (take n (sp .numbers)) (take n (sp .amounts))) table
 workedBy (Stopped k) sp r table out = leaving (judgedAs (stoppedAs k) r) r table out
 workedBy Deep sp r table out = leaving (judgedAs (Refused 16) r) r table out
-workedBy (Wrong p) sp r table out = leaving (judgedAs (Refused 3) r) r table out
+workedBy (Wrong p) sp r table out = after (wrongAt p r) table out
 workedBy TooLong sp r table out = leaving (judgedAs (Refused 2) r) r table out
 
 unfoldable pub worked : Left → Record → List ℤ → List ℤ → After
@@ -71,12 +74,8 @@ worked l r table out = workedBy (l .answer) (l .lent) r table out
 abbrev pub notRead : List ℕ → Bool → List ℤ → Bool
 notRead line switch table = not (eqb (length table) 5000) || ltb 256 (length line) || unread switch line
 
-abbrev pub lentBy : Option Line → List ℤ → Spaces → Spaces
-lentBy none table old = zeros
-lentBy (some t) table old = leaves table old t .lent
-
-unfoldable pub lentAfter : Option Line → List ℕ → Bool → List ℤ → Spaces → Spaces
-lentAfter f line switch table old = cond (notRead line switch table) old (lentBy f table old)
+unfoldable pub lentAfter : Form Line → List ℕ → Bool → List ℤ → Spaces → Spaces
+lentAfter f line switch table old = cond (notRead line switch table) old (leaves table old f .lent)
 
 abbrev pub Lends : List ℕ → Bool → List ℤ → Spaces → Spaces → Type 0
 Lends line switch table old lent = ByForm line (λ f. lentAfter f line switch table old) lent

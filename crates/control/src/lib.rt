@@ -6,7 +6,7 @@ ghost use lib.ListN.{length, take, set};
 ghost use Rattle.rules.specs.Promise.{Right, after, apply, unread};
 ghost use Rattle.block.specs.Execution.{execution};
 ghost use Rattle.reader.specs.Reading.{spaces};
-ghost use Rattle.control.specs.Worked.{judgedAs, stoppedAs, unchanged, Lends, settingsOf, tableAfter, workDone};
+ghost use Rattle.control.specs.Worked.{judgedAs, stoppedAs, unchanged, wrongAt, Lends, settingsOf, tableAfter, workDone};
 use reader::Reading;
 use rules::Answer;
 use rules::Outcome;
@@ -98,6 +98,7 @@ fn unchanged(answer: Answer, rec: Record) -> Report
             rec: rec,
         },
         work: 0,
+        place: 0,
     }
 }
 
@@ -110,6 +111,23 @@ fn answered(answer: Answer, rec: Record) -> Report
         return unchanged(answer, rec);
     }
     unchanged(Answer::Refused(1), rec)
+}
+
+// A line of wrong form: the place at which it breaks is told, unless the record is out of order.
+fn misformed(place: usize, rec: Record) -> Report
+    ensures { λ r. ⌜ r ≡ wrongAt place rec ⌝ }
+{
+    if !record::in_order(rec) {
+        return unchanged(Answer::Refused(1), rec);
+    }
+    Report {
+        outcome: Outcome {
+            answer: Answer::Refused(3),
+            rec: rec,
+        },
+        work: 0,
+        place: place as u64,
+    }
 }
 
 // A line that neither its length nor the switch keeps from being read: what is read of it decides.
@@ -142,7 +160,7 @@ fn read_and_work(
         ),
         Reading::Stopped(number) => answered(stopped_as(number), rec),
         Reading::Deep => answered(Answer::Refused(16), rec),
-        Reading::Wrong(_) => answered(Answer::Refused(3), rec),
+        Reading::Wrong(place) => misformed(place, rec),
         Reading::TooLong => answered(Answer::Refused(2), rec),
     }
 }
@@ -170,7 +188,7 @@ fn finish(
     table: &mut [i64],
     out: &mut [i64],
 ) -> Report
-    ensures { λ r. ⌜ (record { outcome = r .outcome; out = now (out .exit) } ≡ execution (take words (now (letters .entry))) (take words (now (values .entry))) rec (now (out .entry))) × (r .work ≡ workDone (r .outcome .answer) work) × (now (table .exit) ≡ tableAfter (r .outcome .answer) (settingsOf (take settings (now (numbers .entry))) (take settings (now (amounts .entry)))) (now (table .entry))) ⌝ }
+    ensures { λ r. ⌜ (record { outcome = r .outcome; out = now (out .exit) } ≡ execution (take words (now (letters .entry))) (take words (now (values .entry))) rec (now (out .entry))) × (r .work ≡ workDone (r .outcome .answer) work) × (r .place ≡ 0) × (now (table .exit) ≡ tableAfter (r .outcome .answer) (settingsOf (take settings (now (numbers .entry))) (take settings (now (amounts .entry)))) (now (table .entry))) ⌝ }
 {
     let outcome = block::execute(letters, values, words, rec, out);
     let answer = outcome.answer;
@@ -178,6 +196,7 @@ fn finish(
     Report {
         outcome,
         work: work_done(answer, work),
+        place: 0,
     }
 }
 

@@ -69,14 +69,14 @@ pub record Plain : Type 0 where
   pub table : List ℤ
   pub out : List ℤ
 
--- the number that an answer carries, the count of its commands, and the work that is reported with it
-abbrev pub answered : Answer → ℕ → Rs274Answer
-answered a work = record { number = numberOf a; count = countOf a; work = work }
+-- the number that an answer carries, the count of its commands, and the place and the work that are reported with it
+abbrev pub answered : Answer → ℕ → ℕ → Rs274Answer
+answered a place work = record { number = numberOf a; count = countOf a; place = place; work = work }
 
 -- what the promise speaks of, in plain numbers
 abbrev pub plain : After → Plain
 plain a = record {
-  answer = answered (a .outcome .answer) (a .work);
+  answer = answered (a .outcome .answer) (a .place) (a .work);
   rec = packed (a .outcome .rec);
   table = a .table;
   out = a .out;
@@ -84,7 +84,7 @@ plain a = record {
 
 -- number 1, and nothing is changed
 abbrev pub unheld : List ℤ → List ℤ → List ℤ → Plain
-unheld rec table out = record { answer = record { number = 1; count = 0; work = 0 }; rec = rec; table = table; out = out }
+unheld rec table out = record { answer = record { number = 1; count = 0; place = 0; work = 0 }; rec = rec; table = table; out = out }
 
 -- what is left is what the promise allows for the record that the numbers stand for; numbers that stand for none are number 1
 pub record Embedded (line : List ℕ) (switch : Bool) (rec table out : List ℤ) (left : Plain) : Type 0 where

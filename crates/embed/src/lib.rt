@@ -14,12 +14,14 @@ use rules::Length;
 use rules::Record;
 use rules::Value;
 
-// The number that the line carries (0 accepted, 100 skipped), the count of its commands, and how many
-// values and operations were worked out, 0 unless it was accepted.
+// The number that the line carries (0 accepted, 100 skipped), the count of its commands, the place at
+// which its form breaks, 0 unless the number is 3, and how many values and operations were worked out,
+// 0 unless it was accepted.
 #[repr(C)]
 pub struct Rs274Answer {
     pub number: u32,
     pub count: u64,
+    pub place: u64,
     pub work: u64,
 }
 
@@ -39,6 +41,7 @@ pub extern "C" fn rs274_line(
         return Rs274Answer {
             number: 1,
             count: 0,
+            place: 0,
             work: 0,
         };
     }
@@ -46,29 +49,33 @@ pub extern "C" fn rs274_line(
     let outcome = report.outcome;
     let left = outcome.rec;
     let answer = outcome.answer;
+    let place = report.place;
     let work = report.work;
     pack(left, rec);
-    answered(answer, work)
+    answered(answer, place, work)
 }
 
-// The number and the count that an answer stands for, with the work.
-fn answered(answer: Answer, work: u64) -> Rs274Answer
-    ensures { λ r. ⌜ r ≡ answered answer work ⌝ }
+// The number and the count that an answer stands for, with the place and the work.
+fn answered(answer: Answer, place: u64, work: u64) -> Rs274Answer
+    ensures { λ r. ⌜ r ≡ answered answer place work ⌝ }
 {
     match answer {
         Answer::Accepted(commands) => Rs274Answer {
             number: 0,
             count: commands,
+            place,
             work,
         },
         Answer::Refused(number) => Rs274Answer {
             number: number as u32,
             count: 0,
+            place,
             work,
         },
         Answer::Skipped => Rs274Answer {
             number: 100,
             count: 0,
+            place,
             work,
         },
     }

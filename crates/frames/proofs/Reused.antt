@@ -3,7 +3,6 @@
 use mathlib.Core.Path.{_≡_, refl, sym, ap, subst, _∙_}
 use mathlib.Core.Bool.{Bool, true, false, cond}
 use mathlib.Core.List.{List, [], _∷_, _++_, append-assoc}
-use mathlib.Core.Option.{Option}
 use Prim.Native.Nat.{ℕ, zero, suc, _+_, _*_, _/_, _≤_}
 use native.Mathlib.Omega.{arith}
 use lib.Dec.{eqb}
@@ -18,7 +17,8 @@ use Rattle.rules.specs.Steps.{ready, motionOf, target}
 use Rattle.rules.specs.Arcs.{arcMove, centre}
 use Rattle.rules.specs.Commands.{padded, command, eight, only, numbers, moveCommand, commands, written}
 use Rattle.rules.specs.Refusals.{first}
-use Rattle.rules.specs.Promise.{After, answerTo, accepted, byNumber, countOf, leaving, over, numbers as numbersFor, taken, underived}
+use Rattle.grammar.specs.Derivation.{Form}
+use Rattle.rules.specs.Promise.{After, answerTo, accepted, misformed, placeIn, byNumber, countOf, leaving, over, numbers as numbersFor, taken, underived}
 use Rattle.rules.specs.Frames.{hex, complement, fields, fieldsUsed, kindOf, frame, framesIn, onward}
 use Rattle.rules.specs.declared.Answer.the-variants.{Accepted, Refused, Skipped}
 use Rattle.rules.specs.declared.Block.{Block}
@@ -132,20 +132,24 @@ module _ (e : Contents Entry) (b : Block) (r : Record) (table out out′ : List 
   skipped-alike : Alike (length out) (leaving Skipped r table out) (leaving Skipped r table out′)
   skipped-alike = record { outcome = refl; table = refl; frames = λ rest. refl; roomy = refl; few = omega arith }
 
-  number-alike : (n : ℕ) → Alike (length out) (byNumber n e b r table out) (byNumber n e b r table out′)
-  number-alike n = by (eqb n 0) (eqb n 100)
-    where
-      by : (x y : Bool) → Alike (length out) (cond x (accepted e b r table out) (leaving (cond x (Accepted 0) (cond y Skipped (Refused n))) r table out))
-          (cond x (accepted e b r table out′) (leaving (cond x (Accepted 0) (cond y Skipped (Refused n))) r table out′))
-      by true y = accepted-alike
-      by false true = skipped-alike
-      by false false = refused-alike n
+  misformed-alike : (place : ℕ) → Alike (length out) (misformed place r table out) (misformed place r table out′)
+  misformed-alike place = record { outcome = refl; table = refl; frames = λ rest. refl; roomy = refl; few = omega arith }
 
-pub answer-alike : (f : Option (Contents Entry)) (l : List ℕ) (switch : Bool) (r : Record) (table out out′ : List ℤ) → 72 ≤ length out → length out′ ≡ length out
+  number-alike : (n place : ℕ) → Alike (length out) (byNumber n place e b r table out) (byNumber n place e b r table out′)
+  number-alike n place = by (eqb n 0) (eqb n 3) (eqb n 100)
+    where
+      by : (x z y : Bool) → Alike (length out) (cond x (accepted e b r table out) (cond z (misformed place r table out) (leaving (cond x (Accepted 0) (cond y Skipped (Refused n))) r table out)))
+          (cond x (accepted e b r table out′) (cond z (misformed place r table out′) (leaving (cond x (Accepted 0) (cond y Skipped (Refused n))) r table out′)))
+      by true z y = accepted-alike
+      by false true y = misformed-alike place
+      by false false true = skipped-alike
+      by false false false = refused-alike n
+
+pub answer-alike : (f : Form (Contents Entry)) (l : List ℕ) (switch : Bool) (r : Record) (table out out′ : List ℤ) → 72 ≤ length out → length out′ ≡ length out
     → Alike (length out) (answerTo f l switch r table out) (answerTo f l switch r table out′)
 unfolding answerTo
 answer-alike f l switch r table out out′ roomy same =
     let e = taken f in
     let b = blockOf (words (e .entries)) in
-    subst (λ (k : ℕ). Alike (length out) (byNumber (first (numbersFor (underived f) e b l switch r table (length out))) e b r table out) (byNumber (first (numbersFor (underived f) e b l switch r table k)) e b r table out′)) (sym same)
-    (number-alike e b r table out out′ roomy same (first (numbersFor (underived f) e b l switch r table (length out))))
+    subst (λ (k : ℕ). Alike (length out) (byNumber (first (numbersFor (underived f) e b l switch r table (length out))) (placeIn f) e b r table out) (byNumber (first (numbersFor (underived f) e b l switch r table k)) (placeIn f) e b r table out′)) (sym same)
+    (number-alike e b r table out out′ roomy same (first (numbersFor (underived f) e b l switch r table (length out))) (placeIn f))

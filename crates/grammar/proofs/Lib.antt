@@ -17,3 +17,6 @@ pub mod Local
 pub mod Settled
 pub mod Bare
 pub mod Tally
+pub mod Preparing
+pub mod Stuck
+pub mod Places

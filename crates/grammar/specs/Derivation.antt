@@ -1,11 +1,11 @@
--- A line as it is typed, what remains of it once it is prepared, and when a tree derives it.
+-- A line as it is typed, what remains of it once it is prepared, when a tree derives it, and where its form breaks if none does.
 -- Assumes nothing.
 use mathlib.Core.Path.{_≡_}
 use mathlib.Core.Bool.{Bool, _&&_, cond}
-use mathlib.Core.List.{List, [], _∷_}
-use mathlib.Core.Option.{Option, none, some}
-use Prim.Native.Nat.{ℕ, _-_}
+use mathlib.Core.List.{List, [], _∷_, _++_}
+use Prim.Native.Nat.{ℕ, _-_, _≤_}
 use lib.Dec.{leb, eqb}
+use lib.ListN.{length, take}
 use Rattle.grammar.specs.Bytes.{byte, bytes, among}
 use Rattle.grammar.specs.Grammar.{Line, LineOk, write}
 
@@ -32,7 +32,28 @@ pub record Derives (t : Line) (s : List ℕ) : Type 0 where
   pub ok : LineOk t
   pub writes : strip s ≡ write t
 
--- a is the answer for the line s: where a tree derives s, the answer for that tree; where none does, the answer for none
-pub record ByForm {A : Type 0} (s : List ℕ) (answer : Option Line → A) (a : A) : Type 0 where
-  pub byTree : (t : Line) → Derives t s → a ≡ answer (some t)
-  pub byNone : ((t : Line) → ¬ Derives t s) → a ≡ answer none
+-- ---- where the form breaks (request 2 of document 02)
+
+-- "some line of right form, of any length, also begins with" these bytes
+pub record RightBeginning (x : List ℕ) : Type 0 where
+  pub rest : List ℕ
+  pub tree : Line
+  pub derives : Derives tree (x ++ rest)
+
+-- n is "the number of bytes in the longest beginning of the line that some line of right form, of any length, also begins with"
+pub record Place (s : List ℕ) (n : ℕ) : Type 0 where
+  pub within : n ≤ length s
+  pub begins : RightBeginning (take n s)
+  pub longest : (k : ℕ) → k ≤ length s → RightBeginning (take k s) → k ≤ n
+
+-- ---- answers by form
+
+-- a line's form: its derivation, or what that gives; or the place at which the form breaks
+pub data Form (A : Type 0) : Type 0 where
+  derived : A → Form A
+  breaksAt : ℕ → Form A
+
+-- a is the answer for the line s: where a tree derives s, the answer for that tree; where none does, the answer for the place at which its form breaks
+pub record ByForm {A : Type 0} (s : List ℕ) (answer : Form Line → A) (a : A) : Type 0 where
+  pub byTree : (t : Line) → Derives t s → a ≡ answer (derived t)
+  pub byPlace : ((t : Line) → ¬ Derives t s) → (n : ℕ) → Place s n → a ≡ answer (breaksAt n)

@@ -49,7 +49,7 @@ pub data Item : Type 0 where
   setting : Value → Value → Item
   comment : List ℕ → Item
 
--- "line: optional `/`, optional N with one to five digits, then any number of items"; ticket 6 of document 02: "`/[expression]` (run if not zero) and
+-- "line: optional `/`, optional N with one to five digits, then any number of items"; request 6 of document 02: "`/[expression]` (run if not zero) and
 -- `\[expression]` (run if zero), and a plain `\`"
 pub data Stroke : Type 0 where
   slash backslash : Stroke

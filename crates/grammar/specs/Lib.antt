@@ -1,5 +1,6 @@
 pub mod Bytes
 pub mod Grammar
 pub mod Derivation
+pub mod Typed
 pub mod Work
 pub mod Working

@@ -1,4 +1,4 @@
--- How much work a derivation is, how deep it nests, and the bytes that bound its work. The quoted sentences are of ticket 12 in document 02.
+-- How much work a derivation is, how deep it nests, and the bytes that bound its work. The quoted sentences are of request 12 in document 02.
 -- Assumes nothing.
 use mathlib.Core.Bool.{cond}
 use mathlib.Core.List.{List, [], _∷_}

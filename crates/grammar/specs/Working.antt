@@ -3,9 +3,9 @@
 -- Assumes nothing.
 use mathlib.Core.Bool.{Bool, true, false, cond}
 use mathlib.Core.List.{List, [], _∷_}
-use mathlib.Core.Option.{Option, none, some}
 use Prim.Native.Nat.{ℕ}
 use Rattle.grammar.specs.Grammar.{Number, Value, number, parameter, applied, grouped, Expr, expr, Rest, done, more, Item, word, setting, comment, Stroke, Mark, unmarked, plain, conditional, Line, line}
+use Rattle.grammar.specs.Derivation.{Form, derived, breaksAt}
 use Rattle.grammar.specs.Work.{work, depth}
 use Rattle.grammar.specs.declared.Op.{Op}
 use Rattle.grammar.specs.declared.Op.the-variants.{Add, Sub, Mul, Div, Mod, And, Or, Xor}
@@ -119,7 +119,7 @@ module _ {W E : Type 0} (A : Arithmetic W E) where
   abbrev pub contents : Line → Contents E
   contents t = record { entries = lineEntries t; work = work t; depth = depth t }
 
-  -- the same for a derivation, or for none
-  abbrev pub contentsOf : Option Line → Option (Contents E)
-  contentsOf none = none
-  contentsOf (some t) = some (contents t)
+  -- the same for a line's form
+  abbrev pub contentsOf : Form Line → Form (Contents E)
+  contentsOf (derived t) = derived (contents t)
+  contentsOf (breaksAt n) = breaksAt n

@@ -1,13 +1,24 @@
-// What the panel, written in C, links: one number for the bytes typed, for length and form only.
-// include/rs274_panel.h declares it for C. A function that tells the place of a wrong form too goes
-// beside it, under a name of its own, so that this one stays as it is.
+// What the panel, written in C, links: two numbers for the bytes typed, for length and form only.
+// include/rs274_panel.h declares it for C.
 ghost use Rattle.grammar.specs.Derivation.{ByForm};
-ghost use Rattle.rules.specs.Promise.{panel};
+ghost use Rattle.rules.specs.Promise.{panel, panelPlace};
 
-// 0 where the line is of right form, 2 where it has more than 256 bytes, 3 where it has no derivation.
+// The number is 0 where the line is of right form, 2 where it has more than 256 bytes, 3 where it has no
+// derivation. With 3 the place says where the form breaks: how many bytes of the line, as typed, some
+// line of right form also begins with. With any other number it is 0.
+#[repr(C)]
+pub struct Rs274FormAnswer {
+    pub number: u32,
+    pub place: u64,
+}
+
 #[no_mangle]
-pub extern "C" fn rs274_form(line: &[u8]) -> u32
-    ensures { λ r. ⌜ ByForm (now (line .entry)) (panel (now (line .entry))) r ⌝ }
+pub extern "C" fn rs274_form(line: &[u8]) -> Rs274FormAnswer
+    ensures { λ r. ⌜ ByForm (now (line .entry)) (λ f. record { number = panel (now (line .entry)) f; place = panelPlace (now (line .entry)) f }) r ⌝ }
 {
-    reader::form(line) as u32
+    let said = reader::form(line);
+    Rs274FormAnswer {
+        number: said.number as u32,
+        place: said.place as u64,
+    }
 }

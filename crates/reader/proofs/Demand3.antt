@@ -1,7 +1,7 @@
 -- Demand 3, of what `read` leaves: for a derived line the tree's words and settings, in order and with their values, up to the first of numbers 5 to 7 or a condition's no;
 -- and a wrong form exactly where there is no derivation. Every law here follows from the contract alone.
 -- Assumes nothing.
-use mathlib.Core.Path.{_≡_, refl, sym, ap, _∙_}
+use mathlib.Core.Path.{_≡_, refl, sym, ap, subst, _∙_}
 use mathlib.Core.Bool.{Bool, true, false, cond}
 use mathlib.Core.List.{List, [], _∷_, _++_, map}
 use mathlib.Core.Logic.{_⊎_, inl, inr, ⊎-elim}
@@ -14,10 +14,11 @@ use lib.IntN.{ℤ}
 use lib.ListN.{length, drop, length-map}
 use lib.Seq.{sets, sets-eq}
 use Rattle.grammar.specs.Grammar.{Item, word, setting, comment, Mark, unmarked, plain, conditional, Line, line}
-use Rattle.grammar.specs.Derivation.{strip, Derives}
+use Rattle.grammar.specs.Derivation.{Derives, Place}
 use Rattle.grammar.specs.Work.{work, depth}
 use Rattle.grammar.specs.Working.{Step, skip, stop, Took, end, stopped, took, Contents, after, value, expression, entries, markStep, lineEntries, contents}
-use Rattle.grammar.proofs.Derivations.{decided}
+use Rattle.grammar.proofs.Stuck.{stuckAt, breaks}
+use Rattle.grammar.proofs.ByForm.{by-form-sole}
 use Rattle.grammar.proofs.Lengths.{wordCount, settingCount, itemsOf, few}
 use Rattle.rules.specs.Meaning.{Entry, wordOf, settingOf, settingAt, parameterOf, runs, conditionOf, arithmetic, stoppedBy, Said, Setting, words, settings}
 use Rattle.rules.specs.Promise.{tooDeep}
@@ -25,12 +26,10 @@ use Rattle.rules.specs.declared.Worked.{Worked}
 use Rattle.rules.specs.declared.Worked.the-variants.{Good, Bad}
 use Rattle.rules.specs.declared.Parameter.{Parameter}
 use Rattle.rules.specs.declared.Parameter.the-variants.{Number as Numbered, Outside}
-use Rattle.reader.specs.Underived.{FirstWrong}
 use Rattle.reader.specs.Reading.{Spaces, zeros, stored, stopOf, counted, outcome, leftFor, leaves, Left, left, Reads}
 use Rattle.reader.specs.declared.line.Reading.{Reading}
 use Rattle.reader.specs.declared.line.Reading.the-variants.{Read as Whole, Stopped, Deep, Wrong, TooLong}
 use Rattle.reader.proofs.Stops.{Stopping, StopsSo, line-stops}
-use Rattle.reader.proofs.FirstWrong.{first-wrong-one}
 use Rattle.reader.proofs.Clash.{clash}
 
 -- ---- what an answer for a tree tells
@@ -136,12 +135,12 @@ module _ (l : List ℕ) (t : List ℤ) (old : Spaces) (r : Reading) (sp : Spaces
     gives = contents (arithmetic t) u
 
     is-answer : r ≡ leftFor gives old .answer
-    is-answer = ap (λ (x : Left). x .answer) (p .byTree h u d)
+    is-answer = ap (λ (x : Left). x .answer) (p .byForm h .byTree u d)
 
     -- a line that nests deeper than 24 is told so, and nothing of it is left
     pub tree-deep : tooDeep gives ≡ true → (r ≡ Deep) × (sp ≡ zeros)
     tree-deep e =
-        let k : left r sp ≡ left Deep zeros = p .byTree h u d ∙ rw e in
+        let k : left r sp ≡ left Deep zeros = p .byForm h .byTree u d ∙ rw e in
         (ap (λ (x : Left). x .answer) k, ap (λ (x : Left). x .lent) k)
 
     -- and only such a line
@@ -150,7 +149,7 @@ module _ (l : List ℕ) (t : List ℤ) (old : Spaces) (r : Reading) (sp : Spaces
 
     module _ (n : tooDeep gives ≡ false) where
       shallow : left r sp ≡ left (outcome (gives .entries) (gives .work)) (stored (gives .entries) old)
-      shallow = p .byTree h u d ∙ rw n
+      shallow = p .byForm h .byTree u d ∙ rw n
 
       -- the answer of any other: how many words and settings the tree has and its work, or the number that stopped the reading
       pub tree-answer : r ≡ outcome (lineEntries (arithmetic t) u) (work u)
@@ -190,18 +189,19 @@ module _ (l : List ℕ) (t : List ℤ) (old : Spaces) (r : Reading) (sp : Spaces
   wrong-none q e u d = tree-not-wrong u d q e
 
   pub none-wrong : ((u : Line) → ¬ Derives u l) → (q : ℕ) × (r ≡ Wrong q)
-  none-wrong n = let w = p .byNone h n in (w .place, ap (λ (x : Left). x .answer) (w .is))
+  none-wrong n = (stuckAt l, ap (λ (x : Left). x .answer) (p .byForm h .byPlace n (stuckAt l) (breaks l n)))
 
-  -- and the place told is the first at which no right line can go on
-  pub wrong-first : (q : ℕ) → r ≡ Wrong q → FirstWrong (strip l) q
-  wrong-first q e =
-      let w = p .byNone h (wrong-none q e) in
-      let k : w .place ≡ q = cc (ap (λ (x : Left). x .answer) (w .is), e) in
-      rw k at (w .first)
+  -- and the place told is the one at which the form of the typed line breaks
+  pub wrong-place : (q : ℕ) → r ≡ Wrong q → Place l q
+  wrong-place q e =
+      let n = wrong-none q e in
+      let w : r ≡ Wrong (stuckAt l) = ap (λ (x : Left). x .answer) (p .byForm h .byPlace n (stuckAt l) (breaks l n)) in
+      let k : stuckAt l ≡ q = cc (w, e) in
+      subst (Place l) k (breaks l n)
 
   -- and nothing of what was read is left
   pub wrong-clears : (q : ℕ) → r ≡ Wrong q → sp ≡ zeros
-  wrong-clears q e = ap (λ (x : Left). x .lent) (p .byNone h (wrong-none q e) .is)
+  wrong-clears q e = let n = wrong-none q e in ap (λ (x : Left). x .lent) (p .byForm h .byPlace n (stuckAt l) (breaks l n))
 
 -- a longer line is answered so, and leaves the spaces as they were
 pub long-line : (l : List ℕ) (t : List ℤ) (old : Spaces) (r : Reading) (sp : Spaces) → 256 < length l → Reads l t old r sp → (r ≡ TooLong) × (sp ≡ old)
@@ -211,14 +211,6 @@ long-line l t old r sp h p = (ap (λ (x : Left). x .answer) (p .byLength h), ap 
 pub reads-one : {l : List ℕ} {t : List ℤ} {old : Spaces} {r r′ : Reading} {sp sp′ : Spaces} → Reads l t old r sp → Reads l t old r′ sp′ → left r sp ≡ left r′ sp′
 reads-one {l} {t} {old} {r} {r′} {sp} {sp′} p q = go (leb (length l) 256) refl
   where
-    no-tree : length l ≤ 256 → ((u : Line) → ¬ Derives u l) → left r sp ≡ left r′ sp′
-    no-tree h n =
-        let a = p .byNone h n in
-        let b = q .byNone h n in
-        a .is ∙ ap (λ (x : ℕ). left (Wrong x) zeros) (first-wrong-one (strip l) (a .first) (b .first)) ∙ sym (b .is)
-
     go : (c : Bool) → leb (length l) 256 ≡ c → left r sp ≡ left r′ sp′
-    go true e =
-        let h = leb-true (length l) 256 e in
-        ⊎-elim (λ w. p .byTree h (w .0) (w .1) ∙ sym (q .byTree h (w .0) (w .1))) (no-tree h) (decided l)
+    go true e = let h = leb-true (length l) 256 e in by-form-sole (p .byForm h) (q .byForm h)
     go false e = let h = leb-false (length l) 256 e in p .byLength h ∙ sym (q .byLength h)

@@ -11,7 +11,6 @@ pub mod Passing
 pub mod Gathering
 pub mod Beginning
 pub mod Guarding
-pub mod FirstWrong
 pub mod Reading
 pub mod Stops
 pub mod Demand3

@@ -1,4 +1,4 @@
--- From the prepared bytes to the derivation: whoever reads as the model does leaves what the derivation says.
+-- From the prepared bytes to the line's form: whoever reads as the model does leaves what the derivation says, or tells the place at which the form breaks.
 -- Assumes nothing.
 use mathlib.Core.Path.{_≡_, refl, sym, ap, _∙_}
 use mathlib.Core.Bool.{Bool, true, false, cond}
@@ -12,31 +12,27 @@ use lib.IntN.{ℤ}
 use lib.ListN.{length, take, drop, length-append}
 use lib.Seq.{take-at}
 use Rattle.grammar.specs.Grammar.{Line}
-use Rattle.grammar.specs.Derivation.{strip, Derives, ByForm}
+use Rattle.grammar.specs.Derivation.{strip, Derives, Place, ByForm}
+use Rattle.grammar.specs.Typed.{typedFrom}
 use Rattle.grammar.specs.Work.{work, depth}
-use Rattle.grammar.specs.Working.{Took, lineEntries}
-use Rattle.grammar.proofs.Read.{Read, fail, got, mapR, readLine}
+use Rattle.grammar.specs.Working.{Took, Contents, contents}
+use Rattle.grammar.proofs.Read.{got, readLine}
 use Rattle.grammar.proofs.LineBack.{line-back}
 use Rattle.grammar.proofs.Lengths.{strip-length}
-use Rattle.grammar.proofs.OnePass.{line-same}
 use Rattle.grammar.proofs.Place.{Placed, wrong, found, place}
-use Rattle.grammar.proofs.Items.{lineP}
+use Rattle.grammar.proofs.Stuck.{stuck, none-fails, breaks, place-one}
 use Rattle.grammar.proofs.Trees.{lineT}
-use Rattle.grammar.proofs.ByForm.{by-pass, byLine}
-use Rattle.rules.specs.Meaning.{Entry}
-use Rattle.rules.specs.Promise.{panel}
-use Rattle.reader.specs.Pass.{pass, guarded}
+use Rattle.rules.specs.Meaning.{Entry, words, settings}
+use Rattle.rules.specs.Promise.{tooDeep, panel, panelPlace}
 use Rattle.text.specs.Prepare.{bytesOf, prepared}
-use Rattle.reader.specs.Underived.{FirstWrong}
-use Rattle.reader.specs.Reading.{Spaces, leftFor, leaves, left, Reads}
-use Rattle.reader.specs.Gather.{checked, leftByLine}
 use Rattle.text.specs.declared.Prepared.the-variants.{Bytes, TooLong as NoRoom}
+use Rattle.reader.specs.Pass.{guarded}
+use Rattle.reader.specs.Reading.{Spaces, zeros, stored, stopOf, counted, outcome, leftFor, Left, left, Reads, formAnswer}
+use Rattle.reader.specs.Gather.{checked, leftByLine, typedIn, asTyped, formSaid}
 use Rattle.reader.specs.declared.line.Checked.{Checked}
-use Rattle.reader.specs.declared.line.Checked.the-variants.{Right, Wrong as Broken}
 use Rattle.reader.specs.declared.line.Reading.{Reading}
-use Rattle.reader.specs.declared.line.Reading.the-variants.{TooLong}
+use Rattle.reader.specs.declared.line.Reading.the-variants.{Deep, Wrong, TooLong}
 use Rattle.reader.proofs.Guarding.{guarded-line}
-use Rattle.reader.proofs.FirstWrong.{first-wrong}
 use Rattle.reader.proofs.Clash.{clash}
 
 -- ---- the prepared bytes
@@ -82,91 +78,66 @@ module _ (l old : List ℕ) (room : length old ≡ 256) {n : ℕ} {text : List �
 pub too-long : (l : List ℕ) (room : ℕ) → room ≡ 256 → NoRoom ≡ bytesOf l room → 256 < length l
 too-long l room e p = leb-false (length l) 256 (rw e at (long-is l room p))
 
--- ---- what the model's reader says, by derivations
+-- ---- what the model's reader says, by the line's form
 
-module _ (t : List ℤ) (s : List ℕ) where
-  by-line : lineP (pass t) s ≡ place s (mapR (lineEntries (guarded t)) (readLine s))
-  unfolding lineP
-  by-line = ap (place s) (line-same (pass t) s)
-
--- what was found, or nothing
-abbrev foundIn : Placed (Took Entry) → Option (Took Entry)
-foundIn (wrong p) = none
-foundIn (found e p) = some e
-
-module _ (t : List ℤ) (l : List ℕ) where
-  by-found : ByForm l (byLine (pass t) foundIn none (λ e. some e) (λ e p. refl) (λ p. refl)) (foundIn (lineP (pass t) (strip l)))
-  by-found = by-pass (pass t) foundIn none (λ e. some e) (λ e p. refl) (λ p. refl) refl
-
+module _ (l : List ℕ) where
   -- a derived line
-  module _ {u : Line} (d : Derives u l) where
-    read-back : readLine (strip l) ≡ got u []
-    read-back = rw (d .writes, line-back u (d .ok))
+  line-found : {u : Line} → Derives u l → lineT (strip l) ≡ found u (length (strip l) - 0)
+  unfolding lineT
+  line-found {u} d = let back : readLine (strip l) ≡ got u [] = rw (d .writes, line-back u (d .ok)) in ap (place (strip l)) back
 
-    line-found : lineT (strip l) ≡ found u (length (strip l) - 0)
-    unfolding lineT
-    line-found = ap (place (strip l)) read-back
+  -- a line that has no derivation: the pass stops where its form breaks
+  line-stuck : ((u : Line) → ¬ Derives u l) → lineT (strip l) ≡ wrong (stuck (strip l))
+  unfolding lineT stuck
+  line-stuck h = let k = none-fails l h in rw (k .1)
 
-    -- the code's arithmetic gives what the rules' gives
-    line-leaves : (old : Spaces) → leftByLine t (lineT (strip l)) old ≡ leaves t old u
-    line-leaves old =
-        ap (λ (m : Placed Line). leftByLine t m old) line-found
-        ∙ ap (λ (e : Took Entry). leftFor (record { entries = e; work = work u; depth = depth u }) old) (guarded-line t u)
-
-  -- a line that has no derivation
-  module _ (none-at-all : (u : Line) → ¬ Derives u l) where
-    none-fails : (q : List ℕ) × (readLine (strip l) ≡ fail q)
-    none-fails = go (readLine (strip l)) refl (ap foundIn (sym (by-line t (strip l))) ∙ by-found .byNone none-at-all)
-      where
-        go : (m : Read Line) → readLine (strip l) ≡ m → foundIn (place (strip l) (mapR (lineEntries (guarded t)) (readLine (strip l)))) ≡ none → (q : List ℕ) × (readLine (strip l) ≡ fail q)
-        go (fail q) e h = (q, e)
-        go (got u q) e h = let k : foundIn (place (strip l) (mapR (lineEntries (guarded t)) (got u q))) ≡ none = rw e at h in clash (cc)
-
-    -- the pass stops where the line is wrong first
-    record Stuck : Type 0 where
-      place : ℕ
-      first : FirstWrong (strip l) place
-      is : lineT (strip l) ≡ wrong place
-
-    line-stuck : Stuck
-    unfolding lineT
-    line-stuck =
-        let k = none-fails in
-        record { place = length (strip l) - length (k .0); first = first-wrong (strip l) (k .0) (k .1); is = ap (place (strip l)) (k .1) }
+  place-is : ((u : Line) → ¬ Derives u l) → {n : ℕ} → Place l n → typedFrom false l (stuck (strip l)) ≡ n
+  place-is h p = place-one (breaks l h) p
 
 -- ---- the two promises
 
+-- what a derivation gives has no place
+placeless : (l : List ℕ) (c : Contents Entry) (old : Spaces) → asTyped l (leftFor c old) ≡ leftFor c old
+placeless l c old = go (tooDeep c)
+  where
+    whole : (o : Option ℕ) (w n k : ℕ) → typedIn l (counted o w n k) ≡ counted o w n k
+    whole none w n k = refl
+    whole (some m) w n k = refl
+
+    go : (d : Bool) → asTyped l (cond d (left Deep zeros) (left (outcome (c .entries) (c .work)) (stored (c .entries) old))) ≡ cond d (left Deep zeros) (left (outcome (c .entries) (c .work)) (stored (c .entries) old))
+    go true = refl
+    go false = ap (λ (x : Reading). left x (stored (c .entries) old)) (whole (stopOf (c .entries)) (length (words (c .entries))) (length (settings (c .entries))) (c .work))
+
 -- a line of at most 256 bytes, read as the model reads it
-pub reads-by-form : (t : List ℤ) (l : List ℕ) (old : Spaces) {text : List ℕ} {r : Reading} {sp : Spaces} → length l ≤ 256 → text ≡ strip l →
-    left r sp ≡ leftByLine t (lineT text) old → Reads l t old r sp
-reads-by-form t l old {text} {r} {sp} h f e =
-    let k : left r sp ≡ leftByLine t (lineT (strip l)) old = e ∙ ap (λ (x : List ℕ). leftByLine t (lineT x) old) f in
+pub reads-by-form : (t : List ℤ) (l : List ℕ) (old : Spaces) {text : List ℕ} {m : Left} {r : Reading} {sp : Spaces} → length l ≤ 256 → text ≡ strip l →
+    m ≡ leftByLine t (lineT text) old → left r sp ≡ asTyped l m → Reads l t old r sp
+reads-by-form t l old {text} {m} {r} {sp} h f b e =
+    let k : left r sp ≡ asTyped l (leftByLine t (lineT (strip l)) old) = e ∙ ap (asTyped l) (b ∙ ap (λ (x : List ℕ). leftByLine t (lineT x) old) f) in
     record {
       byLength = λ g. absurd (omega arith);
-      byTree = λ _ u d. k ∙ line-leaves t l d old;
-      byNone = λ _ n.
-          let w = line-stuck t l n in
-          record { place = w .place; first = w .first; is = k ∙ ap (λ (m : Placed Line). leftByLine t m old) (w .is) };
+      byForm = λ _. record {
+        byTree = λ u d.
+            k
+            ∙ ap (λ (m : Placed Line). asTyped l (leftByLine t m old)) (line-found l d)
+            ∙ placeless l (contents (guarded t) u) old
+            ∙ ap (λ (e : Took Entry). leftFor (record { entries = e; work = work u; depth = depth u }) old) (guarded-line t u);
+        byPlace = λ g n p. k ∙ ap (λ (m : Placed Line). asTyped l (leftByLine t m old)) (line-stuck l g) ∙ ap (λ (x : ℕ). left (Wrong x) zeros) (place-is l g p);
+      };
     }
 
 -- a longer one
 pub long-by-form : (t : List ℤ) (l : List ℕ) (old : Spaces) → 256 < length l → Reads l t old TooLong old
-long-by-form t l old h = record { byLength = λ g. refl; byTree = λ g u d. absurd (omega arith); byNone = λ g n. absurd (omega arith) }
+long-by-form t l old h = record { byLength = λ g. refl; byForm = λ g. absurd (omega arith) }
 
--- the number of a form that was checked
-abbrev numbered : Checked → ℕ
-numbered Right = 0
-numbered (Broken p) = 3
-
-pub form-by-form : (l : List ℕ) {text : List ℕ} {c : Checked} → length l ≤ 256 → text ≡ strip l → c ≡ checked (lineT text) → ByForm l (panel l) (numbered c)
-unfolding panel
+pub form-by-form : (l : List ℕ) {text : List ℕ} {c : Checked} → length l ≤ 256 → text ≡ strip l → c ≡ checked (lineT text) → ByForm l (formAnswer l) (formSaid l c)
+unfolding panel panelPlace
 form-by-form l {text} {c} h f e =
     let k : c ≡ checked (lineT (strip l)) = e ∙ ap (λ (x : List ℕ). checked (lineT x)) f in
     record {
-      byTree = λ u d. ap numbered (k ∙ ap (λ (m : Placed Line). checked m) (line-found [] l d)) ∙ rw (le-ltb 256 (length l) h);
-      byNone = λ n. ap numbered (k ∙ ap (λ (m : Placed Line). checked m) (line-stuck [] l n .is)) ∙ rw (le-ltb 256 (length l) h);
+      byTree = λ u d. ap (formSaid l) (k ∙ ap (λ (m : Placed Line). checked m) (line-found l d)) ∙ rw (le-ltb 256 (length l) h);
+      byPlace = λ g n p. ap (formSaid l) (k ∙ ap (λ (m : Placed Line). checked m) (line-stuck l g)) ∙ rw (le-ltb 256 (length l) h, place-is l g p);
     }
 
-pub long-form : (l : List ℕ) → 256 < length l → ByForm l (panel l) 2
-unfolding panel
-long-form l h = record { byTree = λ u d. rw (lt-ltb 256 (length l) h); byNone = λ n. rw (lt-ltb 256 (length l) h) }
+pub long-form : (l : List ℕ) → 256 < length l → ByForm l (formAnswer l) (record { number = 2; place = 0 })
+unfolding panel panelPlace
+long-form l h = record { byTree = λ u d. rw (lt-ltb 256 (length l) h); byPlace = λ g n p. rw (lt-ltb 256 (length l) h) }

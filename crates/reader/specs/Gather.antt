@@ -1,6 +1,6 @@
 -- The items of a prepared line one after another, from the trees that the grammar's reader finds. No public contract cites it.
 -- Assumes nothing.
-use mathlib.Core.Bool.{Bool, cond}
+use mathlib.Core.Bool.{Bool, false, cond}
 use mathlib.Core.List.{List}
 use Prim.Native.Nat.{ℕ, _+_}
 use lib.Dec.{ltb}
@@ -8,6 +8,7 @@ use lib.IntN.{ℤ}
 use lib.ListN.{length}
 use Rattle.grammar.specs.Grammar.{Item, Line}
 use Rattle.grammar.specs.Work.{itemsWork, itemsDepth}
+use Rattle.grammar.specs.Typed.{typedFrom}
 use Rattle.grammar.specs.Working.{Contents, entries, contents}
 use Rattle.grammar.proofs.Place.{Placed, wrong, found, mapP}
 use Rattle.rules.specs.Meaning.{Entry, words, settings}
@@ -16,6 +17,7 @@ use Rattle.reader.specs.Reading.{Spaces, zeros, storedFrom, stopOf, coun
 use Rattle.reader.specs.declared.mark.Begun.{Begun}
 use Rattle.reader.specs.declared.line.Checked.{Checked}
 use Rattle.reader.specs.declared.line.Checked.the-variants.{Right, Wrong as Broken}
+use Rattle.reader.specs.declared.line.FormAnswer.{FormAnswer}
 use Rattle.reader.specs.declared.line.Reading.{Reading}
 use Rattle.reader.specs.declared.line.Reading.the-variants.{Read as Whole, Stopped, Deep, Wrong, TooLong}
 
@@ -70,3 +72,19 @@ tidied (Stopped n) lent = left (Stopped n) lent
 tidied Deep lent = left Deep zeros
 tidied (Wrong p) lent = left (Wrong p) zeros
 tidied TooLong lent = left TooLong lent
+
+-- and once the place of a wrong form is carried from the prepared line back to the typed one
+abbrev pub typedIn : List ℕ → Reading → Reading
+typedIn line (Whole w n k) = Whole w n k
+typedIn line (Stopped n) = Stopped n
+typedIn line Deep = Deep
+typedIn line (Wrong p) = Wrong (typedFrom false line p)
+typedIn line TooLong = TooLong
+
+abbrev pub asTyped : List ℕ → Left → Left
+asTyped line l = left (typedIn line (l .answer)) (l .lent)
+
+-- the answer of the form check likewise
+abbrev pub formSaid : List ℕ → Checked → FormAnswer
+formSaid line Right = record { number = 0; place = 0 }
+formSaid line (Broken p) = record { number = 3; place = typedFrom false line p }

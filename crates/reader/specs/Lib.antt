@@ -4,6 +4,5 @@ pub mod Passage
 pub mod Levels
 pub mod Marks
 pub mod Cursor
-pub mod Underived
 pub mod Reading
 pub mod Gather

@@ -1,4 +1,4 @@
--- What `read` leaves: its answer, and what each lent space holds. It is said by the derivation of the line, or by its having none.
+-- What `read` leaves: its answer, and what each lent space holds. It is said by the line's form: its derivation, or the place at which its form breaks.
 -- Assumes nothing.
 use mathlib.Core.Path.{_≡_}
 use mathlib.Core.Bool.{cond}
@@ -9,11 +9,11 @@ use lib.IntN.{ℤ, pos}
 use lib.ListN.{length, replicate}
 use lib.Seq.{sets}
 use Rattle.grammar.specs.Grammar.{Line}
-use Rattle.grammar.specs.Derivation.{strip, Derives}
+use Rattle.grammar.specs.Derivation.{Form, derived, breaksAt, ByForm}
 use Rattle.grammar.specs.Working.{Took, end, stopped, took, Contents, contents}
 use Rattle.rules.specs.Meaning.{Entry, Said, Setting, arithmetic, words, settings}
-use Rattle.rules.specs.Promise.{tooDeep}
-use Rattle.reader.specs.Underived.{FirstWrong}
+use Rattle.rules.specs.Promise.{tooDeep, panel, panelPlace}
+use Rattle.reader.specs.declared.line.FormAnswer.{FormAnswer}
 use Rattle.reader.specs.declared.line.Reading.{Reading}
 use Rattle.reader.specs.declared.line.Reading.the-variants.{Read as Whole, Stopped, Deep, Wrong, TooLong}
 
@@ -79,19 +79,18 @@ left answer lent = record { answer = answer; lent = lent }
 abbrev pub leftFor : Contents Entry → Spaces → Left
 leftFor c old = cond (tooDeep c) (left Deep zeros) (left (outcome (c .entries) (c .work)) (stored (c .entries) old))
 
--- for a line that a tree derives
-abbrev pub leaves : List ℤ → Spaces → Line → Left
-leaves table old t = leftFor (contents (arithmetic table) t) old
+-- for a line's form: what its derivation gives; or the place at which it breaks, and nothing of what was read by then
+abbrev pub leaves : List ℤ → Spaces → Form Line → Left
+leaves table old (derived t) = leftFor (contents (arithmetic table) t) old
+leaves table old (breaksAt n) = left (Wrong n) zeros
 
--- for prepared bytes that no tree writes: the first place that is wrong, and nothing of what was read by then
-pub record LeavesNone (s : List ℕ) (answer : Reading) (lent : Spaces) : Type 0 where
-  pub place : ℕ
-  pub first : FirstWrong s place
-  pub is : left answer lent ≡ left (Wrong place) zeros
-
--- for any line: one of more than 256 bytes is not read; where a tree derives a shorter one, what is left is what that tree gives; where none does, the
--- place of the wrong form is told
+-- for any line: one of more than 256 bytes is not read; of a shorter one its form decides
 pub record Reads (line : List ℕ) (table : List ℤ) (old : Spaces) (answer : Reading) (lent : Spaces) : Type 0 where
   pub byLength : 256 < length line → left answer lent ≡ left TooLong old
-  pub byTree : length line ≤ 256 → (t : Line) → Derives t line → left answer lent ≡ leaves table old t
-  pub byNone : length line ≤ 256 → ((t : Line) → ¬ Derives t line) → LeavesNone (strip line) answer lent
+  pub byForm : length line ≤ 256 → ByForm line (leaves table old) (left answer lent)
+
+-- ---- the form alone
+
+-- "0, 2 or 3, for length and form only", and "the place too, as a second number, 0 unless 3"
+abbrev pub formAnswer : List ℕ → Form Line → FormAnswer
+formAnswer line f = record { number = panel line f; place = panelPlace line f }

@@ -12,6 +12,7 @@ mod spelling;
 mod terms;
 mod values;
 
+pub use line::FormAnswer;
 pub use line::Reading;
 pub use line::form;
 pub use line::read;

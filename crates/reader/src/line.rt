@@ -5,10 +5,9 @@ ghost use Prim.Native.Nat.{_+_, _≤_, _<_};
 ghost use lib.ListN.{length, set};
 ghost use Rattle.grammar.specs.Derivation.{ByForm};
 ghost use Rattle.grammar.proofs.Trees.{itemsT, labelT, lineT};
-ghost use Rattle.rules.specs.Promise.{panel};
 ghost use Rattle.reader.specs.Places.{speltTo};
 ghost use Rattle.reader.specs.Gather.{checked, ended, leftAfter, leftByLine, tidied};
-ghost use Rattle.reader.specs.Reading.{spaces, zeros, Reads};
+ghost use Rattle.reader.specs.Reading.{spaces, zeros, formAnswer, Reads};
 use super::cursor::item_from;
 use super::items::Item;
 use super::items::item_end;
@@ -21,6 +20,7 @@ use super::spelling::Spelt;
 use rules::Value;
 use text::Prepared;
 use text::prepare;
+use text::typed_place;
 
 // What became of a line.
 pub enum Reading {
@@ -31,14 +31,21 @@ pub enum Reading {
     Stopped(u8),
     // Its form is right, but some value of it nests deeper than 24; the lent spaces hold zeros.
     Deep,
-    // It has no derivation. The place, among the prepared bytes, of the first at which it cannot go on;
-    // the lent spaces hold zeros.
+    // It has no derivation. The place in the line, as typed, at which its form breaks; the lent spaces
+    // hold zeros.
     Wrong(usize),
     // It has more than 256 bytes.
     TooLong,
 }
 
-// Whether the form is right to the line's end, and if not, where it is wrong.
+// The form check's answer: 0 for a right form, 2 for more than 256 bytes, 3 for a wrong form; and with
+// 3 the place in the line, as typed, at which its form breaks, with any other 0.
+pub struct FormAnswer {
+    pub number: u8,
+    pub place: usize,
+}
+
+// Whether the form is right to the line's end, and if not, where among the prepared bytes it is wrong.
 enum Checked {
     Right,
     Wrong(usize),
@@ -246,7 +253,10 @@ pub fn read(
     };
     let reading = read_text(&text[..n], table, letters, values, numbers, amounts);
     match reading {
-        Reading::Wrong(_) => clear(letters, values, numbers, amounts),
+        Reading::Wrong(p) => {
+            clear(letters, values, numbers, amounts);
+            return Reading::Wrong(typed_place(line, p));
+        }
         Reading::Deep => clear(letters, values, numbers, amounts),
         _ => {}
     }
@@ -266,16 +276,22 @@ fn check_text(text: &[u8]) -> Checked
     }
 }
 
-// The form check: 0 for a right form, 2 for more than 256 bytes, 3 for a wrong form.
-pub fn form(line: &[u8]) -> u8
-    ensures { λ r. ⌜ ByForm (now (line .entry)) (panel (now (line .entry))) r ⌝ }
+// The form check. Nothing is worked out.
+pub fn form(line: &[u8]) -> FormAnswer
+    ensures { λ r. ⌜ ByForm (now (line .entry)) (formAnswer (now (line .entry))) r ⌝ }
 {
     let mut text = [0u8; 256];
     match prepare(line, &mut text) {
         Prepared::Bytes(n) => match check_text(&text[..n]) {
-            Checked::Right => 0,
-            Checked::Wrong(_) => 3,
+            Checked::Right => told(0, 0),
+            Checked::Wrong(p) => told(3, typed_place(line, p)),
         },
-        Prepared::TooLong => 2,
+        Prepared::TooLong => told(2, 0),
     }
+}
+
+fn told(number: u8, place: usize) -> FormAnswer
+    ensures { λ r. ⌜ r ≡ record { number = number; place = place } ⌝ }
+{
+    FormAnswer { number, place }
 }

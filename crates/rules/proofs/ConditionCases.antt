@@ -1,4 +1,4 @@
--- Ticket 6 of document 02 on both sides: conditions, plain marks and the switch. Whatever the promise allows for each line is what its row says.
+-- Request 6 of document 02 on both sides: conditions, plain marks and the switch. Whatever the promise allows for each line is what its row says.
 -- Assumes nothing.
 use mathlib.Core.Path.{refl}
 use mathlib.Core.List.{List, [], _∷_, _++_}

@@ -3,7 +3,6 @@
 use mathlib.Core.Path.{_≡_, refl, ap, _∙_, sym, subst}
 use mathlib.Core.Bool.{Bool, true, false, cond, not, _&&_, _||_}
 use mathlib.Core.List.{List, [], _∷_, map}
-use mathlib.Core.Option.{Option, none, some}
 use Prim.Native.Nat.{ℕ, zero, suc, _*_, _≤_}
 use native.Mathlib.Omega.{arith}
 use native.Mathlib.Decide.{ℕ-discrete}
@@ -15,9 +14,9 @@ use borrow.Author.Tests.{eqb-false}
 use Rattle.laws.proofs.Bools.{and-left, and-right, neither-left, neither-right, or-cases, T-eq}
 use Rattle.grammar.specs.Bytes.{byte, among}
 use Rattle.grammar.specs.Grammar.{Line}
-use Rattle.grammar.specs.Derivation.{strip}
+use Rattle.grammar.specs.Derivation.{Form, derived, breaksAt}
 use Rattle.grammar.specs.Working.{Contents}
-use Rattle.grammar.proofs.Read.{parse}
+use Rattle.grammar.proofs.ByForm.{formOf}
 use Rattle.rules.specs.Numbers.{within, inRange, whole, between, counted}
 use Rattle.rules.specs.Meaning.{Entry, reading, Said, Setting, words, settings}
 use Rattle.rules.specs.Codes.{gGroup, groupOf}
@@ -27,7 +26,7 @@ use Rattle.rules.specs.Steps.{feedStep, speedStep, toolStep, changeStep,
 use Rattle.rules.specs.Steps.{originPlace, originSystem, originOf, originsSet, named, noOffset, ends, spindleOf, coolantWith}
 use Rattle.rules.specs.Arcs.{arcMove, centre}
 use Rattle.rules.specs.Refusals.{Case, _when_, first, below0, outside, wrongWord, tooFar}
-use Rattle.rules.specs.Promise.{After, Right, answerTo, numbers, byNumber, underived, taken, apply, numberOf, disorder}
+use Rattle.rules.specs.Promise.{After, Right, answerTo, numbers, byNumber, underived, taken, placeIn, apply, numberOf, disorder}
 use Rattle.rules.specs.declared.Length.{Length}
 use Rattle.rules.specs.declared.Value.{Value}
 use Rattle.rules.specs.declared.Word.{Word}
@@ -349,21 +348,21 @@ ordered-before r table e = go (eqb (length table) 5000) (inOrder r) refl e
     go false y p e = absurd (subst T e tt)
 
 module _ (line : List ℕ) (switch : Bool) (r : Record) (table out : List ℤ) (before : disorder r table ≡ false) where
-  accepted-in-order : (e : Option (Contents Entry)) → AllInRange (words (taken e .entries)) → numberOf (answerTo e line switch r table out .outcome .answer) ≡ 0 →
+  accepted-in-order : (e : Form (Contents Entry)) → AllInRange (words (taken e .entries)) → numberOf (answerTo e line switch r table out .outcome .answer) ≡ 0 →
       disorder (answerTo e line switch r table out .outcome .rec) (answerTo e line switch r table out .table) ≡ false
   unfolding answerTo
   accepted-in-order e fine h =
       let b = blockOf (words (taken e .entries)) in
       let cs = numbers (underived e) (taken e) b line switch r table (length out) in
-      let zero-is : first cs ≡ 0 = sym (number-is (first cs) (taken e) b r table out) ∙ h in
+      let zero-is : first cs ≡ 0 = sym (number-is (first cs) (placeIn e) (taken e) b r table out) ∙ h in
       let was = ordered-before r table before in
       let now = left-ordered b r (summary (words (taken e .entries)) fine) (ordered r (was .0)) (words-right b (none-holds 11 cs tt tt zero-is)) (in-reach b (ready b r) (none-holds 13 cs tt tt zero-is)) in
-      subst (λ (n : ℕ). disorder (byNumber n (taken e) b r table out .outcome .rec) (byNumber n (taken e) b r table out .table) ≡ false) (sym zero-is)
+      subst (λ (n : ℕ). disorder (byNumber n (placeIn e) (taken e) b r table out .outcome .rec) (byNumber n (placeIn e) (taken e) b r table out .table) ≡ false) (sym zero-is)
       (in-order-table (left b r) (apply (settings (taken e .entries)) table) (in-order (left b r) now) (apply-length (settings (taken e .entries)) table ∙ was .1))
 
-  reading-in-range : (f : Option Line) → AllInRange (words (taken (reading table f) .entries))
-  reading-in-range none = tt
-  reading-in-range (some t) = words-in-range table t
+  reading-in-range : (f : Form Line) → AllInRange (words (taken (reading table f) .entries))
+  reading-in-range (breaksAt n) = tt
+  reading-in-range (derived t) = words-in-range table t
 
   -- from a record and a table in order, whatever the promise allows leaves them in order
   pub stays-in-order : {a : After} → Right line switch r table out a → disorder (a .outcome .rec) (a .table) ≡ false
@@ -372,7 +371,7 @@ module _ (line : List ℕ) (switch : Bool) (r : Record) (table out : List ℤ) (
       go : Dec (numberOf (a .outcome .answer) ≡ 0) → disorder (a .outcome .rec) (a .table) ≡ false
       go (yes e) =
           let m = by-model line switch r table out p in
-          let f = parse (strip line) in
+          let f = formOf line in
           subst (λ (x : After). disorder (x .outcome .rec) (x .table) ≡ false) (sym m)
           (accepted-in-order (reading table f) (reading-in-range f) (ap (λ (x : After). numberOf (x .outcome .answer)) (sym m) ∙ e))
       go (no e) = let u = unchanged line switch r table out p e in rw (u .sameRecord, u .sameTable) before

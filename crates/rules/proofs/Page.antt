@@ -39,7 +39,7 @@ pageRows =
     row "#1=99999.9999" fresh zeros room 0 0 fresh (set zeros 1 (pos 999999999)) room
     ∷ refuses "#1=100000" fresh 5
     ∷ row "#1=1.2345" fresh zeros room 0 0 fresh (set zeros 1 (pos 12345)) room
-    -- "01's 1.23456 then gives 1.2346" (ticket 4 of document 02)
+    -- "01's 1.23456 then gives 1.2346" (request 4 of document 02)
     ∷ row "#1=1.23456" fresh zeros room 0 0 fresh (set zeros 1 (pos 12346)) room
     ∷ row "#1.0001=2" fresh zeros room 0 0 fresh (set zeros 1 (pos 20000)) room
     ∷ refuses "#1.0002=2" fresh 7

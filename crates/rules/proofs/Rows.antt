@@ -9,8 +9,7 @@ use Prim.Native.String.{String}
 use lib.ListN.{length, replicate}
 use lib.IntN.{ℤ, pos, negℤ}
 use Rattle.grammar.specs.Bytes.{bytes}
-use Rattle.grammar.specs.Derivation.{strip}
-use Rattle.grammar.proofs.Read.{parse}
+use Rattle.grammar.proofs.ByForm.{formOf}
 use Rattle.rules.specs.Promise.{After, Right, answer, numberOf, countOf}
 use Rattle.rules.specs.declared.Length.{Length}
 use Rattle.rules.specs.declared.Record.{Record}
@@ -46,7 +45,7 @@ All P (x ∷ xs) = P x × All P xs
 
 -- what the rules make of a row, computed with the reader of the grammar's proofs
 abbrev pub computed : Row → Seen
-computed w = seen (answer (parse (strip (w .line))) (w .line) (w .switch) (w .rec) (w .table) (w .out))
+computed w = seen (answer (formOf (w .line)) (w .line) (w .switch) (w .rec) (w .table) (w .out))
 
 abbrev pub said : Row → Seen
 said w = w .after

@@ -4,28 +4,30 @@
 use mathlib.Core.Path.{_≡_, refl, ap, _∙_, sym, subst}
 use mathlib.Core.Bool.{Bool, true, false, cond, not, _&&_, _||_}
 use mathlib.Core.List.{List, [], _∷_, _++_}
-use mathlib.Core.Logic.{_↔_, _⊎_, inl, inr}
-use mathlib.Core.Option.{Option, none, some}
+use mathlib.Core.Logic.{_↔_, _⊎_, inl, inr, ⊎-elim}
 use Prim.Native.Nat.{ℕ, _*_}
+use native.Mathlib.Omega.{arith}
 use lib.Dec.{T, eqb, ltb, eqb→eq, eqb-refl, T-not}
 use lib.ListN.{length, drop}
 use lib.IntN.{ℤ}
 use Rattle.laws.proofs.Bools.{and-left, and-right, or-cases, T-eq}
 use Rattle.grammar.specs.Grammar.{Line}
-use Rattle.grammar.specs.Derivation.{strip, Derives}
+use Rattle.grammar.specs.Derivation.{Derives, Place, Form, derived, breaksAt}
 use Rattle.grammar.specs.Working.{Contents, contents}
-use Rattle.grammar.proofs.Read.{parse}
+use Rattle.grammar.proofs.Derivations.{decided}
+use Rattle.grammar.proofs.Stuck.{stuckAt, breaks}
+use Rattle.grammar.proofs.ByForm.{formOf}
 use Rattle.rules.specs.Meaning.{Entry, arithmetic, reading, Said, words, meets}
 use Rattle.rules.specs.Block.{blockOf}
 use Rattle.rules.specs.Steps.{ready}
 use Rattle.rules.specs.Arcs.{arcMove, badArc}
 use Rattle.rules.specs.Commands.{commands}
 use Rattle.rules.specs.Refusals.{Case, _when_, first, unserved, doubled, missing, idle, wrongWord, wrongMode, tooFar}
-use Rattle.rules.specs.Promise.{After, Right, answer, answerTo, leaving, accepted, byNumber, numbers, underived, taken, numberOf, disorder, unread, tooDeep}
+use Rattle.rules.specs.Promise.{After, Right, answer, answerTo, leaving, misformed, accepted, byNumber, numbers, underived, placeIn, taken, numberOf, disorder, unread, tooDeep}
 use Rattle.rules.specs.declared.Block.{Block}
 use Rattle.rules.specs.declared.Record.{Record}
 use Rattle.rules.specs.declared.Answer.the-variants.{Refused, Skipped}
-use Rattle.rules.proofs.Demands.{by-model, number-is, lacks, lacking}
+use Rattle.rules.proofs.Demands.{by-model, number-is, three, lacks, lacking}
 
 -- ---- one law about an ordered list of numbers with their conditions
 
@@ -110,11 +112,11 @@ module _ (line : List ℕ) (switch : Bool) (r : Record) (table out : List ℤ) w
   abbrev then : Line → Record
   then t = ready (block t) r
 
-  -- the numbers judged before the form is, and all of them for a derivation or none
+  -- the numbers judged before the form is, and all of them for a line's form
   abbrev pub early : List Case
   early = (1 when disorder r table) ∷ (2 when ltb 256 (length line)) ∷ (100 when unread switch line) ∷ []
 
-  abbrev pub cases : Option Line → List Case
+  abbrev pub cases : Form Line → List Case
   cases f =
       let e = reading table f in
       numbers (underived e) (taken e) (blockOf (words (taken e .entries))) line switch r table (length out)
@@ -130,30 +132,33 @@ module _ (line : List ℕ) (switch : Bool) (r : Record) (table out : List ℤ) w
     pub disordered : disorder r table ≡ true → a ≡ refused 1
     pub tooLong : T (noneBefore 2 early) → ltb 256 (length line) ≡ true → a ≡ refused 2
     pub skipped : T (noneBefore 100 early) → unread switch line ≡ true → a ≡ leaving Skipped r table out
-    pub underivable : T (noneBefore 3 early) → ((t : Line) → ¬ Derives t line) → a ≡ refused 3
-    pub nestsDeep : (t : Line) → Derives t line → T (noneBefore 16 (cases (some t))) → tooDeep (read t) ≡ true → a ≡ refused 16
+    pub underivable : T (noneBefore 3 early) → ((t : Line) → ¬ Derives t line) → (n : ℕ) → Place line n → a ≡ misformed n r table out
+    pub nestsDeep : (t : Line) → Derives t line → T (noneBefore 16 (cases (derived t))) → tooDeep (read t) ≡ true → a ≡ refused 16
     pub saysNo : (t : Line) → Derives t line → T (noneOf (unasked t)) → meets (read t .entries) 100 ≡ true → a ≡ leaving Skipped r table out
-    pub tooFine : (t : Line) → Derives t line → T (noneBefore 4 (cases (some t))) → meets (read t .entries) 4 ≡ true → a ≡ refused 4
-    pub outOfRange : (t : Line) → Derives t line → T (noneBefore 5 (cases (some t))) → meets (read t .entries) 5 ≡ true → a ≡ refused 5
-    pub byZero : (t : Line) → Derives t line → T (noneBefore 6 (cases (some t))) → meets (read t .entries) 6 ≡ true → a ≡ refused 6
-    pub noParameter : (t : Line) → Derives t line → T (noneBefore 7 (cases (some t))) → meets (read t .entries) 7 ≡ true → a ≡ refused 7
-    pub notServed : (t : Line) → Derives t line → T (noneBefore 8 (cases (some t))) → unserved (wordsOf t) ≡ true → a ≡ refused 8
-    pub givenTwice : (t : Line) → Derives t line → T (noneBefore 9 (cases (some t))) → doubled (wordsOf t) (block t) ≡ true → a ≡ refused 9
-    pub missingOrIdle : (t : Line) → Derives t line → T (noneBefore 10 (cases (some t))) → (missing (block t) (then t) || idle (block t) (then t)) ≡ true → a ≡ refused 10
-    pub badWord : (t : Line) → Derives t line → T (noneBefore 11 (cases (some t))) → wrongWord (block t) ≡ true → a ≡ refused 11
-    pub badMode : (t : Line) → Derives t line → T (noneBefore 12 (cases (some t))) → wrongMode (block t) (then t) ≡ true → a ≡ refused 12
-    pub outOfReach : (t : Line) → Derives t line → T (noneBefore 13 (cases (some t))) → tooFar (block t) (then t) ≡ true → a ≡ refused 13
-    pub unequalRadii : (t : Line) → Derives t line → T (noneBefore 14 (cases (some t))) → (arcMove (block t) (then t) && badArc (block t) (then t)) ≡ true → a ≡ refused 14
-    pub noRoom : (t : Line) → Derives t line → T (noneBefore 15 (cases (some t))) → ltb (length out) (8 * length (commands (block t) (then t))) ≡ true → a ≡ refused 15
-    pub works : (t : Line) → Derives t line → T (noneBefore 0 (cases (some t))) → a ≡ accepted (read t) (block t) r table out
+    pub tooFine : (t : Line) → Derives t line → T (noneBefore 4 (cases (derived t))) → meets (read t .entries) 4 ≡ true → a ≡ refused 4
+    pub outOfRange : (t : Line) → Derives t line → T (noneBefore 5 (cases (derived t))) → meets (read t .entries) 5 ≡ true → a ≡ refused 5
+    pub byZero : (t : Line) → Derives t line → T (noneBefore 6 (cases (derived t))) → meets (read t .entries) 6 ≡ true → a ≡ refused 6
+    pub noParameter : (t : Line) → Derives t line → T (noneBefore 7 (cases (derived t))) → meets (read t .entries) 7 ≡ true → a ≡ refused 7
+    pub notServed : (t : Line) → Derives t line → T (noneBefore 8 (cases (derived t))) → unserved (wordsOf t) ≡ true → a ≡ refused 8
+    pub givenTwice : (t : Line) → Derives t line → T (noneBefore 9 (cases (derived t))) → doubled (wordsOf t) (block t) ≡ true → a ≡ refused 9
+    pub missingOrIdle : (t : Line) → Derives t line → T (noneBefore 10 (cases (derived t))) → (missing (block t) (then t) || idle (block t) (then t)) ≡ true → a ≡ refused 10
+    pub badWord : (t : Line) → Derives t line → T (noneBefore 11 (cases (derived t))) → wrongWord (block t) ≡ true → a ≡ refused 11
+    pub badMode : (t : Line) → Derives t line → T (noneBefore 12 (cases (derived t))) → wrongMode (block t) (then t) ≡ true → a ≡ refused 12
+    pub outOfReach : (t : Line) → Derives t line → T (noneBefore 13 (cases (derived t))) → tooFar (block t) (then t) ≡ true → a ≡ refused 13
+    pub unequalRadii : (t : Line) → Derives t line → T (noneBefore 14 (cases (derived t))) → (arcMove (block t) (then t) && badArc (block t) (then t)) ≡ true → a ≡ refused 14
+    pub noRoom : (t : Line) → Derives t line → T (noneBefore 15 (cases (derived t))) → ltb (length out) (8 * length (commands (block t) (then t))) ≡ true → a ≡ refused 15
+    pub works : (t : Line) → Derives t line → T (noneBefore 0 (cases (derived t))) → a ≡ accepted (read t) (block t) r table out
 
   -- ---- told
-  by-first : (f : Option Line) (n : ℕ) → first (cases f) ≡ n → answer f line switch r table out ≡ byNumber n (taken (reading table f)) (blockOf (words (taken (reading table f) .entries))) r table out
-  unfolding answerTo
-  by-first f n e = ap (λ (k : ℕ). byNumber k (taken (reading table f)) (blockOf (words (taken (reading table f) .entries))) r table out) e
+  abbrev left-by : Form Line → ℕ → After
+  left-by f n = byNumber n (placeIn (reading table f)) (taken (reading table f)) (blockOf (words (taken (reading table f) .entries))) r table out
 
-  by-given : (f : Option Line) (n : ℕ) → T (noneBefore n (cases f)) → T (condition n (cases f)) →
-      answer f line switch r table out ≡ byNumber n (taken (reading table f)) (blockOf (words (taken (reading table f) .entries))) r table out
+  by-first : (f : Form Line) (n : ℕ) → first (cases f) ≡ n → answer f line switch r table out ≡ left-by f n
+  unfolding answerTo
+  by-first f n e = ap (left-by f) e
+
+  by-given : (f : Form Line) (n : ℕ) → T (noneBefore n (cases f)) → T (condition n (cases f)) →
+      answer f line switch r table out ≡ left-by f n
   by-given f n t u = by-first f n (given n (cases f) t u)
 
   pub told : {a : After} → Right line switch r table out a → Told a
@@ -161,9 +166,9 @@ module _ (line : List ℕ) (switch : Bool) (r : Record) (table out : List ℤ) w
     disordered = λ c. early-number 1 tt (holds c);
     tooLong = λ h c. early-number 2 h (holds c);
     skipped = λ h c. early-number 100 h (holds c);
-    underivable = λ h d. p .byNone d ∙ by-given none 3 h tt;
+    underivable = λ h d n w. p .byPlace d n w ∙ by-given (breaksAt n) 3 h tt;
     nestsDeep = λ t d h c. later-number t d 16 h (holds c);
-    saysNo = λ t d h c. p .byTree t d ∙ by-first (some t) 100 (behind (unasked t) (drop 5 (cases (some t))) h ∙ rw c);
+    saysNo = λ t d h c. p .byTree t d ∙ by-first (derived t) 100 (behind (unasked t) (drop 5 (cases (derived t))) h ∙ rw c);
     tooFine = λ t d h c. later-number t d 4 h (holds c);
     outOfRange = λ t d h c. later-number t d 5 h (holds c);
     byZero = λ t d h c. later-number t d 6 h (holds c);
@@ -182,14 +187,14 @@ module _ (line : List ℕ) (switch : Bool) (r : Record) (table out : List ℤ) w
       holds : {c : Bool} → c ≡ true → T c
       holds e = subst T (sym e) tt
 
-      f : Option Line
-      f = parse (strip line)
+      f : Form Line
+      f = formOf line
 
-      early-number : (n : ℕ) → T (noneBefore n (cases f)) → T (condition n (cases f)) → a ≡ byNumber n (taken (reading table f)) (blockOf (words (taken (reading table f) .entries))) r table out
+      early-number : (n : ℕ) → T (noneBefore n (cases f)) → T (condition n (cases f)) → a ≡ left-by f n
       early-number n t u = by-model line switch r table out p ∙ by-given f n t u
 
-      later-number : (t : Line) → Derives t line → (n : ℕ) → T (noneBefore n (cases (some t))) → T (condition n (cases (some t))) → a ≡ byNumber n (read t) (block t) r table out
-      later-number t d n h c = p .byTree t d ∙ by-given (some t) n h c
+      later-number : (t : Line) → Derives t line → (n : ℕ) → T (noneBefore n (cases (derived t))) → T (condition n (cases (derived t))) → a ≡ left-by (derived t) n
+      later-number t d n h c = p .byTree t d ∙ by-given (derived t) n h c
 
   -- ---- and back
   -- a sentence for each number of a list: what holds of it where no earlier one applies and its condition does; and for 0 where none does
@@ -211,7 +216,7 @@ module _ (line : List ℕ) (switch : Bool) (r : Record) (table out : List ℤ) w
   pub untold : {a : After} → Told a → Right line switch r table out a
   unfolding answerTo
   untold {a} s = record {
-    byTree = λ t d. by-sentences (λ x. x) (cases (some t)) (λ n. a ≡ byNumber n (read t) (block t) r table out) tt (
+    byTree = λ t d. by-sentences (λ x. x) (cases (derived t)) (λ n. a ≡ left-by (derived t) n) tt (
       λ _ c. s .disordered c,
       (
         s .tooLong,
@@ -254,28 +259,42 @@ module _ (line : List ℕ) (switch : Bool) (r : Record) (table out : List ℤ) w
         ),
       ),
     );
-    byNone = λ h. by-sentences (λ x. x) (early ++ (3 when true) ∷ []) (λ n. a ≡ byNumber n (taken none) (blockOf []) r table out) tt
-        (λ _ c. s .disordered c, (s .tooLong, (s .skipped, (λ k _. s .underivable k h, λ k. absurd (never (disorder r table) (ltb 256 (length line)) (unread switch line) k)))));
+    byPlace = λ h n w. by-sentences (λ x. x) (early ++ (3 when true) ∷ []) (λ k. a ≡ left-by (breaksAt n) k) tt
+        (λ _ c. s .disordered c, (s .tooLong, (s .skipped, (λ k _. s .underivable k h n w, λ k. absurd (never (disorder r table) (ltb 256 (length line)) (unread switch line) k)))));
   }
 
   -- ---- exactly
   module _ {a : After} (p : Right line switch r table out a) (t : Line) (d : Derives t line) where
-    number-first : numberOf (a .outcome .answer) ≡ first (cases (some t))
+    number-first : numberOf (a .outcome .answer) ≡ first (cases (derived t))
     unfolding answerTo
-    number-first = ap (λ (x : After). numberOf (x .outcome .answer)) (p .byTree t d) ∙ number-is (first (cases (some t))) (read t) (block t) r table out
+    number-first = ap (λ (x : After). numberOf (x .outcome .answer)) (p .byTree t d) ∙ number-is (first (cases (derived t))) 0 (read t) (block t) r table out
 
-    pub exactly : (n : ℕ) → (n ≡ 100 → ⊥) → (numberOf (a .outcome .answer) ≡ n) ↔ (T (noneBefore n (cases (some t))) × T (condition n (cases (some t))))
+    pub exactly : (n : ℕ) → (n ≡ 100 → ⊥) → (numberOf (a .outcome .answer) ≡ n) ↔ (T (noneBefore n (cases (derived t))) × T (condition n (cases (derived t))))
     exactly n u =
-        let cs = cases (some t) in
+        let cs = cases (derived t) in
         (λ q. given-only 100 n cs tt u (sym number-first ∙ q), λ h. number-first ∙ given n cs (h .0) (h .1))
 
     -- unread, or by its condition
     pub skips-exactly : (numberOf (a .outcome .answer) ≡ 100) ↔ ((T (noneBefore 100 early) × T (unread switch line)) ⊎ (T (noneOf (unasked t)) × T (meets (read t .entries) 100)))
     skips-exactly = (
-      λ q. at-either 100 ((1 when disorder r table) ∷ (2 when ltb 256 (length line)) ∷ []) (unread switch line) ((3 when false) ∷ (16 when tooDeep (read t)) ∷ []) (meets (read t .entries) 100) (drop 6 (cases (some t))) tt tt tt (sym number-first ∙ q),
+      λ q. at-either 100 ((1 when disorder r table) ∷ (2 when ltb 256 (length line)) ∷ []) (unread switch line) ((3 when false) ∷ (16 when tooDeep (read t)) ∷ []) (meets (read t .entries) 100) (drop 6 (cases (derived t))) tt tt tt (sym number-first ∙ q),
       λ h. number-first ∙ back h,
     )
       where
-        back : (T (noneBefore 100 early) × T (unread switch line)) ⊎ (T (noneOf (unasked t)) × T (meets (read t .entries) 100)) → first (cases (some t)) ≡ 100
-        back (inl h) = given 100 (cases (some t)) (h .0) (h .1)
-        back (inr h) = behind (unasked t) (drop 5 (cases (some t))) (h .0) ∙ rw (T-eq (meets (read t .entries) 100) (h .1))
+        back : (T (noneBefore 100 early) × T (unread switch line)) ⊎ (T (noneOf (unasked t)) × T (meets (read t .entries) 100)) → first (cases (derived t)) ≡ 100
+        back (inl h) = given 100 (cases (derived t)) (h .0) (h .1)
+        back (inr h) = behind (unasked t) (drop 5 (cases (derived t))) (h .0) ∙ rw (T-eq (meets (read t .entries) 100) (h .1))
+
+  -- "Refusal 3 also gives a place": that of the line
+  pub place-3 : {a : After} → Right line switch r table out a → numberOf (a .outcome .answer) ≡ 3 → Place line (a .place)
+  unfolding answerTo
+  place-3 {a} p h = ⊎-elim
+      (λ w. absurd (exactly p (w .0) (w .1) 3 (λ e. omega (arith, e)) .0 h .1))
+      (λ n. subst (λ (x : After). Place line (x .place)) (sym (three-to n)) (breaks line n))
+      (decided line)
+    where
+      three-to : ((t : Line) → ¬ Derives t line) → a ≡ misformed (stuckAt line) r table out
+      three-to n =
+          let e = p .byPlace n (stuckAt line) (breaks line n) in
+          let c : Form (Contents Entry) = breaksAt (stuckAt line) in
+          e ∙ three (first (numbers true (taken c) (blockOf []) line switch r table (length out))) (stuckAt line) (taken c) (blockOf []) r table out (sym (ap (λ (x : After). numberOf (x .outcome .answer)) e) ∙ h)

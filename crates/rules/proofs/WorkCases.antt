@@ -1,4 +1,4 @@
--- Ticket 12 of document 02 on both sides: what a line reports as its work, and the limit of nesting. Whatever the promise allows for each line, from a fresh
+-- Request 12 of document 02 on both sides: what a line reports as its work, and the limit of nesting. Whatever the promise allows for each line, from a fresh
 -- record and a table of zeros, has the number and the work that its row says.
 -- Assumes nothing.
 use mathlib.Core.Path.{_≡_, refl, ap, _∙_}
@@ -9,7 +9,8 @@ use Prim.Native.String.{String}
 use lib.ListN.{replicate}
 use Rattle.grammar.specs.Bytes.{byte, bytes}
 use Rattle.grammar.specs.Derivation.{strip, inside}
-use Rattle.grammar.proofs.Read.{parse, valueOf, restOf, exprOf, itemsOf}
+use Rattle.grammar.proofs.Read.{valueOf, restOf, exprOf, itemsOf}
+use Rattle.grammar.proofs.ByForm.{formOf}
 use Rattle.rules.specs.Numbers.{nearest, residue, near}
 use Rattle.rules.specs.Meaning.{ranged, decimal, written, numberOf, operation, function, parameterOf}
 use Rattle.rules.specs.Codes.{gGroup, mGroup, gCode, mCode, systemNumber}
@@ -39,7 +40,7 @@ abbrev pub Reported : Report → Type 0
 Reported w = (a : After) → Right (w .line) false fresh zeros room a → told a ≡ said w
 
 abbrev computed : Report → List ℕ
-computed w = told (answer (parse (strip (w .line))) (w .line) false fresh zeros room)
+computed w = told (answer (formOf (w .line)) (w .line) false fresh zeros room)
 
 reported : (ws : List Report) → map computed ws ≡ map said ws → All Reported ws
 reported [] e = tt

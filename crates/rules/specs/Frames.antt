@@ -3,14 +3,13 @@
 use mathlib.Core.Path.{_≡_}
 use mathlib.Core.Bool.{Bool, true, false, cond}
 use mathlib.Core.List.{List, [], _∷_, _++_}
-use mathlib.Core.Option.{Option}
 use Prim.Native.Nat.{ℕ, zero, suc, _+_, _-_, _/_, _%_}
 use lib.Dec.{eqb, ltb}
 use lib.ListN.{take, drop, replicate, getD}
 use lib.IntN.{ℤ, pos, negsuc}
 use Rattle.grammar.specs.Bytes.{byte, bytes, among}
 use Rattle.grammar.specs.Grammar.{Line}
-use Rattle.grammar.specs.Derivation.{ByForm}
+use Rattle.grammar.specs.Derivation.{Form, ByForm}
 use Rattle.rules.specs.Reach.{fresh}
 use Rattle.rules.specs.Promise.{After, answer, numberOf, countOf}
 use Rattle.rules.specs.declared.Record.{Record}
@@ -73,7 +72,7 @@ abbrev pub lines : List ℕ → List (List ℕ)
 lines input = cut [] input
 
 -- "switch off and 8,000 numbers of output space", anew for each line
-abbrev pub worked : (List ℕ → Option Line) → List ℕ → Record → List ℤ → After
+abbrev pub worked : (List ℕ → Form Line) → List ℕ → Record → List ℤ → After
 worked tree line r table = answer (tree line) line false r table (replicate 8000 (pos 0))
 
 -- what is written for a line, and then for the rest: "A refusal .. ends the run; nothing follows. M2 and M30 don't end it"
@@ -82,16 +81,16 @@ onward (Accepted n) out rest = framesIn n out ++ rest
 onward Skipped out rest = rest
 onward (Refused n) out rest = refusalFrame n
 
-abbrev pub framesFrom : (List ℕ → Option Line) → List (List ℕ) → Record → List ℤ → List ℕ
+abbrev pub framesFrom : (List ℕ → Form Line) → List (List ℕ) → Record → List ℤ → List ℕ
 framesFrom tree [] r table = []
 framesFrom tree (l ∷ ls) r table =
     let a = worked tree l r table in
     onward (a .outcome .answer) (a .out) (framesFrom tree ls (a .outcome .rec) (a .table))
 
 -- "A program reads lines from standard input, from a fresh record with an all-zero table"
-unfoldable pub frames : (List ℕ → Option Line) → List ℕ → List ℕ
+unfoldable pub frames : (List ℕ → Form Line) → List ℕ → List ℕ
 frames tree input = framesFrom tree (lines input) fresh (replicate 5000 (pos 0))
 
--- the promise for a whole run: whatever tells every line's derivation, or that it has none, tells what is written
+-- the promise for a whole run: whatever tells every line's form tells what is written
 abbrev pub Framed : List ℕ → List ℕ → Type 0
-Framed input output = (tree : List ℕ → Option Line) → ((s : List ℕ) → ByForm s (λ f. f) (tree s)) → output ≡ frames tree input
+Framed input output = (tree : List ℕ → Form Line) → ((s : List ℕ) → ByForm s (λ f. f) (tree s)) → output ≡ frames tree input

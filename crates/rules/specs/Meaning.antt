@@ -2,13 +2,13 @@
 -- Assumes nothing.
 use mathlib.Core.Bool.{Bool, true, false, cond, not, _&&_, _||_}
 use mathlib.Core.List.{List, [], _∷_, _++_}
-use mathlib.Core.Option.{Option}
 use Prim.Native.Nat.{ℕ, _+_, _-_, _*_, _^_}
 use lib.Dec.{eqb}
 use lib.ListN.{length, getD}
 use lib.IntN.{ℤ, pos, natAbs, _+ℤ_, _-ℤ_, _*ℤ_}
 use Rattle.grammar.specs.Bytes.{byte}
 use Rattle.grammar.specs.Grammar.{Sign, unsigned, plus, minus, Fraction, Number, num, fractionDigits, Stroke, slash, backslash, Line}
+use Rattle.grammar.specs.Derivation.{Form}
 use Rattle.grammar.specs.Working.{Arithmetic, Step, skip, give, stop, Took, end, stopped, took, Contents, contentsOf}
 use Rattle.grammar.specs.declared.Op.{Op}
 use Rattle.grammar.specs.declared.Op.the-variants.{Add, Sub, Mul, Div, Mod, And, Or, Xor}
@@ -127,7 +127,7 @@ arithmetic table = record {
 }
 
 -- "the tree's words and settings in order, with their values, up to the first of numbers 4 to 7"; its work, and how deep it nests
-abbrev pub reading : List ℤ → Option Line → Option (Contents Entry)
+abbrev pub reading : List ℤ → Form Line → Form (Contents Entry)
 reading table f = contentsOf (arithmetic table) f
 
 -- the number that stopped the reading, 0 where none did

@@ -95,8 +95,10 @@ pub struct Outcome {
     pub rec: Record,
 }
 
-// All that a line reports: its outcome, and how many values and operations were worked out, 0 unless it was accepted.
+// All that a line reports: its outcome; how many values and operations were worked out, 0 unless it was accepted; and the place at
+// which its form breaks, 0 unless it was refused with 3.
 pub struct Report {
     pub outcome: Outcome,
     pub work: u64,
+    pub place: u64,
 }

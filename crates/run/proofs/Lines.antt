@@ -3,7 +3,6 @@
 use mathlib.Core.Path.{_≡_, refl, sym, ap, subst, _∙_}
 use mathlib.Core.Bool.{Bool, true, false, cond}
 use mathlib.Core.List.{List, [], _∷_, _++_}
-use mathlib.Core.Option.{Option}
 use Prim.Native.Nat.{ℕ, suc, _+_, _-_, _≤_, _<_}
 use native.Mathlib.Omega.{arith}
 use borrow.Author.Tests.{eq-eqb, ne-eqb, lt-ltb}
@@ -13,11 +12,12 @@ use lib.ListN.{length, take, getD, length-append, replicate}
 use lib.Seq.{take-suc}
 use Rattle.grammar.specs.Bytes.{byte}
 use Rattle.grammar.specs.Grammar.{Line}
+use Rattle.grammar.specs.Derivation.{Form}
 use Rattle.grammar.specs.Working.{Contents}
 use Rattle.rules.specs.Meaning.{Entry, reading, words}
 use Rattle.rules.specs.Block.{blockOf}
 use Rattle.rules.specs.Refusals.{first}
-use Rattle.rules.specs.Promise.{After, answerTo, numbers, byNumber, taken, underived, leaving, disorder}
+use Rattle.rules.specs.Promise.{After, answerTo, numbers, byNumber, taken, placeIn, underived, leaving, disorder}
 use Rattle.rules.specs.Frames.{withoutReturn, cut, onward, refusalFrame, framesFrom}
 use Rattle.rules.specs.declared.Record.{Record}
 use Rattle.rules.specs.declared.Block.{Block}
@@ -84,18 +84,18 @@ long-number : (wrong : Bool) (e : Contents Entry) (b : Block) (l : List ℕ) (sw
     → first (numbers wrong e b l switch r table room) ≡ cond (disorder r table) 1 2
 long-number wrong e b l switch r table room h = rw (lt-ltb 256 (length l) h)
 
-long-refused : (f : Option (Contents Entry)) (l : List ℕ) (switch : Bool) (r : Record) (table out : List ℤ) → 256 < length l
+long-refused : (f : Form (Contents Entry)) (l : List ℕ) (switch : Bool) (r : Record) (table out : List ℤ) → 256 < length l
     → answerTo f l switch r table out ≡ leaving (Refused (cond (disorder r table) 1 2)) r table out
 unfolding answerTo
 long-refused f l switch r table out h =
-    ap (λ (n : ℕ). byNumber n (taken f) (blockOf (words (taken f .entries))) r table out) (long-number (underived f) (taken f) (blockOf (words (taken f .entries))) l switch r table (length out) h)
-    ∙ by (disorder r table) (taken f) (blockOf (words (taken f .entries)))
+    ap (λ (n : ℕ). byNumber n (placeIn f) (taken f) (blockOf (words (taken f .entries))) r table out) (long-number (underived f) (taken f) (blockOf (words (taken f .entries))) l switch r table (length out) h)
+    ∙ by (disorder r table) (placeIn f) (taken f) (blockOf (words (taken f .entries)))
   where
-    by : (t : Bool) (e : Contents Entry) (b : Block) → byNumber (cond t 1 2) e b r table out ≡ leaving (Refused (cond t 1 2)) r table out
-    by true e b = refl
-    by false e b = refl
+    by : (t : Bool) (place : ℕ) (e : Contents Entry) (b : Block) → byNumber (cond t 1 2) place e b r table out ≡ leaving (Refused (cond t 1 2)) r table out
+    by true place e b = refl
+    by false place e b = refl
 
-pub long-written : (tree : List ℕ → Option Line) (l : List ℕ) (ls : List (List ℕ)) (r : Record) (table : List ℤ) → 256 < length l
+pub long-written : (tree : List ℕ → Form Line) (l : List ℕ) (ls : List (List ℕ)) (r : Record) (table : List ℤ) → 256 < length l
     → framesFrom tree (l ∷ ls) r table ≡ refusalFrame (cond (disorder r table) 1 2)
 long-written tree l ls r table h =
     ap (λ (a : After). onward (a .outcome .answer) (a .out) (framesFrom tree ls (a .outcome .rec) (a .table))) (long-refused (reading table (tree l)) l false r table (replicate 8000 (pos 0)) h)

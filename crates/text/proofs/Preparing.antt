@@ -3,47 +3,22 @@
 use mathlib.Core.Path.{_≡_, refl, sym, ap, _∙_}
 use mathlib.Core.Bool.{Bool, true, false, cond, not}
 use mathlib.Core.List.{List, [], _∷_, _++_, append-assoc, append-nil}
-use Prim.Native.Nat.{ℕ, _+_, _-_, _≤_, _<_}
+use Prim.Native.Nat.{ℕ, zero, suc, _+_, _-_, _≤_, _<_}
 use native.Mathlib.Omega.{arith}
 use native.Mathlib.Numerals.{add-one}
 use borrow.Author.Tests.{le-leb, lt-leb, ltb-true, ne-eqb}
 use lib.Dec.{eqb, ltb}
 use lib.ListN.{length, drop, getD, set, length-drop, length-append, length-set, drop-of-length-le}
 use lib.Seq.{drop-cons, set-at}
-use Rattle.grammar.specs.Derivation.{blank, raise, strip, inside}
-use Rattle.text.specs.Prepare.{keeps, asKept, stays, plain, from, Done, Copied, bytesOf, prepared}
+use Rattle.grammar.specs.Derivation.{strip}
+use Rattle.grammar.specs.Typed.{prepare, keeps, asKept, stays, typedFrom}
+use Rattle.grammar.proofs.Preparing.{prepare-none, outside, drops, takes}
+use Rattle.text.specs.Prepare.{plain, Done, Copied, bytesOf, prepared}
 use Rattle.text.specs.declared.Prepared.the-variants.{Bytes, TooLong}
 
-from-end : (c : Bool) → from c [] ≡ []
-unfolding strip
-from-end true = refl
-from-end false = refl
-
-from-dropped : (c : Bool) (b : ℕ) (s : List ℕ) → keeps c b ≡ false → from c (b ∷ s) ≡ from c s
-unfolding strip
-from-dropped true b s e = absurd (let z : _≡_ {A = ℕ} 0 1 = cc in omega arith)
-from-dropped false b s e = go (blank b) e
-  where
-    go : (x : Bool) → not x ≡ false → cond x (strip s) (raise b ∷ cond (eqb b 40) (inside s) (strip s)) ≡ strip s
-    go true h = refl
-    go false h = absurd (let z : _≡_ {A = ℕ} 0 1 = cc in omega arith)
-
-from-kept : (c : Bool) (b : ℕ) (s : List ℕ) → keeps c b ≡ true → from c (b ∷ s) ≡ asKept c b ∷ from (stays c b) s
-unfolding strip
-from-kept true b s e = ap (λ (x : List ℕ). b ∷ x) (go (eqb b 41))
-  where
-    go : (x : Bool) → cond x (strip s) (inside s) ≡ from (not x) s
-    go true = refl
-    go false = refl
-from-kept false b s e = go (blank b) e ∙ ap (λ (x : List ℕ). raise b ∷ x) (back (eqb b 40))
-  where
-    go : (x : Bool) → not x ≡ true → cond x (strip s) (raise b ∷ cond (eqb b 40) (inside s) (strip s)) ≡ raise b ∷ cond (eqb b 40) (inside s) (strip s)
-    go true h = absurd (let z : _≡_ {A = ℕ} 0 1 = cc in omega arith)
-    go false h = refl
-
-    back : (x : Bool) → cond x (inside s) (strip s) ≡ from x s
-    back true = refl
-    back false = refl
+-- a blank outside a comment leaves outside
+from-dropped : (c : Bool) (b : ℕ) (s : List ℕ) → keeps c b ≡ false → prepare c (b ∷ s) ≡ prepare c s
+from-dropped c b s e = let o = outside c b e in drops c b e s ∙ ap (λ (d : Bool). prepare d s) (o .1 ∙ sym (o .0))
 
 module _ (l old : List ℕ) where
   pub none-yet : Done l old old 0 0 false
@@ -61,7 +36,7 @@ module _ (l old : List ℕ) where
         behind = omega (arith, q .behind);
         within = omega arith;
         holds = q .holds;
-        makes = ap (λ (x : List ℕ). q .out ++ x) (sym (ap (from c) next ∙ from-dropped c (getD l i 0) (drop (i + 1) l) e)) ∙ q .makes;
+        makes = ap (λ (x : List ℕ). q .out ++ x) (sym (ap (prepare c) next ∙ from-dropped c (getD l i 0) (drop (i + 1) l) e)) ∙ q .makes;
       }
 
       pub kept : length l ≤ length old → keeps c (getD l i 0) ≡ true → {x : ℕ} {d : Bool} → x ≡ asKept c (getD l i 0) → d ≡ stays c (getD l i 0) → Done l old (set text n x) (n + 1) (i + 1) d
@@ -75,19 +50,19 @@ module _ (l old : List ℕ) where
             let z : drop n old ≡ getD old n 0 ∷ drop (n + 1) old = rw (add-one, drop-cons old n 0) in
             ap (λ (t : List ℕ). set t n x) (q .holds ∙ ap (λ (t : List ℕ). q .out ++ t) z) ∙ set-at (q .out) (getD old n 0) (drop (n + 1) old) x n (q .many) ∙ sym (append-assoc (q .out) (x ∷ []) (drop (n + 1) old)));
         makes =
-            append-assoc (q .out) (x ∷ []) (from d (drop (i + 1) l))
-            ∙ ap (λ (t : List ℕ). q .out ++ t) (rw (ex, ed) (sym (ap (from c) next ∙ from-kept c (getD l i 0) (drop (i + 1) l) e)))
+            append-assoc (q .out) (x ∷ []) (prepare d (drop (i + 1) l))
+            ∙ ap (λ (t : List ℕ). q .out ++ t) (rw (ex, ed) (sym (ap (prepare c) next ∙ takes c (getD l i 0) e (drop (i + 1) l))))
             ∙ q .makes;
       }
 
     all-of-it : length l ≤ i → q .out ≡ strip l
-    all-of-it h = sym (append-nil (q .out)) ∙ ap (λ (t : List ℕ). q .out ++ t) (sym (ap (from c) (drop-of-length-le l h) ∙ from-end c)) ∙ q .makes
+    all-of-it h = sym (append-nil (q .out)) ∙ ap (λ (t : List ℕ). q .out ++ t) (sym (ap (prepare c) (drop-of-length-le l h) ∙ prepare-none c)) ∙ q .makes
 
     -- where the line ends in a comment, nothing is left of it outside one either
     pub line-ends : length l ≤ i → Done l old text n i false
     line-ends h =
         let e : drop i l ≡ [] = drop-of-length-le l h in
-        record { out = q .out; many = q .many; behind = q .behind; within = q .within; holds = q .holds; makes = rw (e, from-end false) (rw (e, from-end c) at (q .makes)) }
+        record { out = q .out; many = q .many; behind = q .behind; within = q .within; holds = q .holds; makes = rw (e, prepare-none false) (rw (e, prepare-none c) at (q .makes)) }
 
     pub ends : length l ≤ length old → length l ≤ i → (Bytes n ≡ bytesOf l (length old)) × (text ≡ prepared l old)
     unfolding bytesOf prepared
@@ -152,3 +127,36 @@ module _ (l before : List ℕ) {to at : ℕ} where
 
     pub unclosed : Copying l before text to at n i true → length l ≤ i → Copying l before text to at n i false
     unclosed q h = record { on = q .on; within = q .within; even = q .even; long = q .long; goes = λ old s d. line-ends l old (q .goes old s d) h }
+
+-- ---- where a prepared byte stands in the typed line
+
+-- the bytes before i were passed, and `left` prepared bytes from there on is the byte that is looked for
+pub record Passed (l : List ℕ) (kept left i : ℕ) (c : Bool) : Type 0 where
+  pub within : i ≤ length l
+  pub goes : i + typedFrom c (drop i l) left ≡ typedFrom false l kept
+
+pub none-passed : (l : List ℕ) (kept : ℕ) → Passed l kept kept 0 false
+none-passed l kept = record { within = omega arith; goes = omega arith }
+
+module _ (l : List ℕ) {kept left i : ℕ} {c : Bool} (q : Passed l kept left i c) where
+  pub all-passed : length l ≤ i → i ≡ typedFrom false l kept
+  all-passed h = let e : typedFrom c (drop i l) left ≡ 0 = rw (drop-of-length-le l h) in omega (arith, e, q .goes)
+
+  module _ (h : i < length l) where
+    cut : drop i l ≡ getD l i 0 ∷ drop (i + 1) l
+    cut = rw (add-one, drop-cons l i 0)
+
+    pub here : keeps c (getD l i 0) ≡ true → left ≡ 0 → i ≡ typedFrom false l kept
+    here k z = let e : typedFrom c (drop i l) left ≡ 0 = rw (cut, z, k) in omega (arith, e, q .goes)
+
+    -- a byte is passed: one fewer is left where it is kept
+    pub passed : (keeps c (getD l i 0) ≡ true → 0 < left) → {m : ℕ} {d : Bool} → m ≡ cond (keeps c (getD l i 0)) (left - 1) left → d ≡ stays c (getD l i 0) → Passed l kept m (i + 1) d
+    passed some {m} {d} em ed = record { within = omega arith; goes = (let e = step left some in rw (em, ed) (omega (arith, e, q .goes))) }
+      where
+        step : (p : ℕ) → (keeps c (getD l i 0) ≡ true → 0 < p) → typedFrom c (drop i l) p ≡ suc (typedFrom (stays c (getD l i 0)) (drop (i + 1) l) (cond (keeps c (getD l i 0)) (p - 1) p))
+        step zero s = rw cut (go (keeps c (getD l i 0)) s)
+          where
+            go : (x : Bool) → (x ≡ true → 0 < 0) → cond x 0 (suc (typedFrom (stays c (getD l i 0)) (drop (i + 1) l) 0)) ≡ suc (typedFrom (stays c (getD l i 0)) (drop (i + 1) l) (cond x (0 - 1) 0))
+            go true s = absurd (let z = s refl in omega arith)
+            go false s = refl
+        step (suc p) s = rw cut (ap (λ (n : ℕ). suc (typedFrom (stays c (getD l i 0)) (drop (i + 1) l) (cond (keeps c (getD l i 0)) n (suc p)))) (let e : p ≡ suc p - 1 = omega arith in e))

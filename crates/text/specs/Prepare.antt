@@ -1,36 +1,20 @@
 -- The prepared line in a lent space.
 -- Assumes nothing.
 use mathlib.Core.Path.{_≡_}
-use mathlib.Core.Bool.{Bool, true, false, cond, not}
+use mathlib.Core.Bool.{Bool, true, false, cond}
 use mathlib.Core.List.{List, _++_}
 use Prim.Native.Nat.{ℕ, _+_, _≤_}
-use lib.Dec.{eqb, ltb, leb}
+use lib.Dec.{ltb, leb}
 use lib.ListN.{length, drop}
 use Rattle.grammar.specs.Bytes.{byte}
-use Rattle.grammar.specs.Derivation.{blank, raise, strip, inside}
+use Rattle.grammar.specs.Derivation.{strip}
+use Rattle.grammar.specs.Typed.{prepare}
 use Rattle.text.specs.declared.Prepared.{Prepared}
 use Rattle.text.specs.declared.Prepared.the-variants.{Bytes, TooLong}
-
--- a byte is kept: all of a comment, and outside comments all but blanks
-abbrev pub keeps : Bool → ℕ → Bool
-keeps inside b = cond inside true (not (blank b))
-
--- what is kept of it: letters are raised outside comments
-abbrev pub asKept : Bool → ℕ → ℕ
-asKept inside b = cond inside b (raise b)
-
--- the byte after it stands in a comment: after `(`, up to the first `)`
-abbrev pub stays : Bool → ℕ → Bool
-stays inside b = cond inside (not (eqb b (byte ")"))) (eqb b (byte "("))
 
 -- a byte that is kept as it is outside comments, and opens none: above `(` and below the small letters
 abbrev pub plain : ℕ → Bool
 plain b = cond (ltb (byte "(") b) (ltb b (byte "a")) false
-
--- the rest of a line, inside a comment or outside
-abbrev pub from : Bool → List ℕ → List ℕ
-from true s = inside s
-from false s = strip s
 
 -- the bytes before i were prepared: they make `out`, which stands in the text, and the rest of the line makes the rest
 pub record Done (l old text : List ℕ) (n i : ℕ) (c : Bool) : Type 0 where
@@ -39,7 +23,7 @@ pub record Done (l old text : List ℕ) (n i : ℕ) (c : Bool) : Type 0 where
   pub behind : n ≤ i
   pub within : i ≤ length l
   pub holds : text ≡ out ++ drop n old
-  pub makes : out ++ from c (drop i l) ≡ strip l
+  pub makes : out ++ prepare c (drop i l) ≡ strip l
 
 -- a comment was copied from place at on into place to on, up to place p: what was prepared up to the comment's inside is prepared past it
 pub record Copied (l before after : List ℕ) (to at p : ℕ) : Type 0 where

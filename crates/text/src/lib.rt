@@ -1,9 +1,11 @@
 // A line as the grammar takes it: outside comments spaces and tabs are dropped and letters raised to
 // upper case; a comment, from `(` to the first `)`, is kept as it is.
 ghost use mathlib.Core.Path.{_≡_};
-ghost use Prim.Native.Nat.{_≤_};
+ghost use mathlib.Core.Bool.{false, cond};
+ghost use Prim.Native.Nat.{_-_, _≤_};
 ghost use lib.ListN.{length};
 ghost use Rattle.grammar.specs.Derivation.{blank, raise};
+ghost use Rattle.grammar.specs.Typed.{keeps, stays, typedFrom};
 ghost use Rattle.text.specs.Prepare.{plain, Copied, bytesOf, prepared};
 
 // How many bytes the prepared line has, where there was room for the line.
@@ -90,4 +92,56 @@ pub fn prepare(line: &[u8], text: &mut [u8]) -> Prepared
         }
     }
     Prepared::Bytes(n)
+}
+
+fn keeps_byte(inside: bool, b: u8) -> bool
+    ensures { λ r. ⌜ r ≡ keeps inside b ⌝ }
+{
+    if inside {
+        return true;
+    }
+    !is_blank(b)
+}
+
+fn stays_inside(inside: bool, b: u8) -> bool
+    ensures { λ r. ⌜ r ≡ stays inside b ⌝ }
+{
+    if inside {
+        return b != b')';
+    }
+    b == b'('
+}
+
+// One byte fewer is to be passed where this one is kept.
+fn still_left(kept: bool, left: usize) -> usize
+    ensures { λ r. ⌜ r ≡ cond kept (left - 1) left ⌝ }
+{
+    if !kept {
+        return left;
+    }
+    if left == 0 {
+        return 0;
+    }
+    left - 1
+}
+
+// Where the byte of the prepared line that has `kept` bytes before it stands in the line as typed; where
+// there is none, the line's length. Only a line that is refused is asked for this.
+pub fn typed_place(line: &[u8], kept: usize) -> usize
+    ensures { λ r. ⌜ r ≡ typedFrom false (now (line .entry)) kept ⌝ }
+{
+    let mut inside = false;
+    let mut left = kept;
+    let mut i: usize = 0;
+    while i < line.len() {
+        let b = line[i];
+        let keeps = keeps_byte(inside, b);
+        if keeps && left == 0 {
+            return i;
+        }
+        left = still_left(keeps, left);
+        inside = stays_inside(inside, b);
+        i += 1;
+    }
+    i
 }

@@ -5,7 +5,7 @@ use borrow.Author.Needs.{needs}
 use Rattle.reader.specs.Reading.{spaces}
 use Rattle.rules.specs.declared.Answer.{Answer}
 use Rattle.control.specs.Worked.{judgedAs, unchanged}
-use Rattle.control.proofs.Keeping.{kept-read, kept-as, lends-read}
+use Rattle.control.proofs.Keeping.{kept-read, kept-as, kept-wrong, lends-read}
 use Rattle.control.proofs.read_and_work.Statement.{statement}
 use Rattle.control.proofs.read_and_work.Tie as tie
 
@@ -15,7 +15,7 @@ returns c =
     let p = c .before .before .before .before .before .before .before .before .before .before .before .before .before .before .before .before .before .before .before .pre in
     let old = spaces (s .letters .now) (s .values .now) (s .numbers .now) (s .amounts .now) in
     let f = c .before .before .finish .ensures in (
-      kept-read (s .line .now) (s .switch) (s .rec) (s .table .now) (s .out .now) (p .0) (p .1) (p .2) old (p .3) (p .4) (p .5) (p .6) (rw (c .before .before .before .before .before .before .before .before .before .before .words .given .1) at (c .before .before .before .before .before .before .before .before .before .before .before .before .read .ensures)) (f .0) (f .1) (f .2),
+      kept-read (s .line .now) (s .switch) (s .rec) (s .table .now) (s .out .now) (p .0) (p .1) (p .2) old (p .3) (p .4) (p .5) (p .6) (rw (c .before .before .before .before .before .before .before .before .before .before .words .given .1) at (c .before .before .before .before .before .before .before .before .before .before .before .before .read .ensures)) (f .0) (f .1) (f .2) (f .3),
       lends-read (s .line .now) (s .switch) (s .table .now) old (p .0) (p .1) (p .2) (c .before .before .before .before .before .before .before .before .before .before .before .before .read .ensures),
     )
 
@@ -40,11 +40,11 @@ returns-3 c =
 
 returns-4 : tie.Need-returns-4
 returns-4 c =
-    let s = c .before .before .before .before .before .before .before .before .before .before .args in
-    let p = c .before .before .before .before .before .before .before .before .before .before .pre in
+    let s = c .before .before .before .before .before .before .before .before .before .before .before .args in
+    let p = c .before .before .before .before .before .before .before .before .before .before .before .pre in
     let old = spaces (s .letters .now) (s .values .now) (s .numbers .now) (s .amounts .now) in (
-      kept-as (s .line .now) (s .switch) (s .rec) (s .table .now) (s .out .now) (p .0) (p .1) (p .2) old (p .3) (p .4) (p .5) (p .6) (rw (c .before .enum-told2 .given .1) at (c .before .before .before .read .ensures)) _ refl (c .answered3 .ensures),
-      lends-read (s .line .now) (s .switch) (s .table .now) old (p .0) (p .1) (p .2) (c .before .before .before .read .ensures),
+      kept-wrong (s .line .now) (s .switch) (s .rec) (s .table .now) (s .out .now) (p .0) (p .1) (p .2) old (p .3) (p .4) (p .5) (p .6) (rw (c .before .before .place .given .1) at (c .before .before .before .before .read .ensures)) (c .misformed .ensures),
+      lends-read (s .line .now) (s .switch) (s .table .now) old (p .0) (p .1) (p .2) (c .before .before .before .before .read .ensures),
     )
 
 returns-5 : tie.Need-returns-5
@@ -52,7 +52,7 @@ returns-5 c =
     let s = c .before .before .before .before .before .before .before .before .before .before .args in
     let p = c .before .before .before .before .before .before .before .before .before .before .pre in
     let old = spaces (s .letters .now) (s .values .now) (s .numbers .now) (s .amounts .now) in (
-      kept-as (s .line .now) (s .switch) (s .rec) (s .table .now) (s .out .now) (p .0) (p .1) (p .2) old (p .3) (p .4) (p .5) (p .6) (rw (c .before .enum-told3 .given .1) at (c .before .before .before .read .ensures)) _ refl (c .answered4 .ensures),
+      kept-as (s .line .now) (s .switch) (s .rec) (s .table .now) (s .out .now) (p .0) (p .1) (p .2) old (p .3) (p .4) (p .5) (p .6) (rw (c .before .enum-told2 .given .1) at (c .before .before .before .read .ensures)) _ refl (c .answered3 .ensures),
       lends-read (s .line .now) (s .switch) (s .table .now) old (p .0) (p .1) (p .2) (c .before .before .before .read .ensures),
     )
 

@@ -11,13 +11,13 @@ enum-told : tie.Need-enum-told
 enum-told c = search needs
 
 returns : tie.Need-returns
-returns c = ap (λ (a : Answer). answered a (c .before .before .before .args .work)) (sym (c .before .answer .given .1))
+returns c = ap (λ (a : Answer). answered a (c .before .before .before .args .place) (c .before .before .before .args .work)) (sym (c .before .answer .given .1))
 
 returns-2 : tie.Need-returns-2
-returns-2 c = ap (λ (a : Answer). answered a (c .before .before .before .args .work)) (sym (c .before .answer2 .given .1))
+returns-2 c = ap (λ (a : Answer). answered a (c .before .before .before .args .place) (c .before .before .before .args .work)) (sym (c .before .answer2 .given .1))
 
 returns-3 : tie.Need-returns-3
-returns-3 c = ap (λ (a : Answer). answered a (c .before .before .args .work)) (sym (c .enum-told .given .1))
+returns-3 c = ap (λ (a : Answer). answered a (c .before .before .args .place) (c .before .before .args .work)) (sym (c .enum-told .given .1))
 
 pub answered-spec : {M : Type 1} → statement M
 answered-spec =
