@@ -912,7 +912,7 @@ fn bare_bytes(line: &[u8]) -> usize {
 }
 
 /// A line for the fresh record and an all-zero table.
-fn usual(line: &[u8]) -> Case {
+pub fn usual(line: &[u8]) -> Case {
     let record = Record::fresh().to_numbers();
     Case { line: line.to_vec(), switch: false, record, table_length: TABLE_LENGTH, changes: Vec::new(), room: 80 }
 }
@@ -990,10 +990,10 @@ fn lent_cases() -> Vec<(Case, u8)> {
     cases
 }
 
-/// NGC prints a line of five items that means the same in all of its 120 orders; here it is 10.
-fn five_items_in_every_order() -> Vec<String> {
+/// NGC prints a line of five items, with the motion g1, that means the same in all of its 120 orders; here it is 10.
+pub fn five_items_in_every_order(motion: &str) -> Vec<String> {
     let mut orders = vec![String::new()];
-    for (placed, item) in ["g40", "g1", "#3=15", "(foo)", "#4=-7.0"].iter().enumerate() {
+    for (placed, item) in ["g40", motion, "#3=15", "(foo)", "#4=-7.0"].iter().enumerate() {
         orders = orders.iter().flat_map(|order| (0..=placed).map(move |place| with_item(order, place, item))).collect();
     }
     orders
@@ -1044,7 +1044,7 @@ fn examples() -> Vec<Example> {
         let line = nest_line((opening, times, within, closing, rest));
         all.extend(session("nest", "#1=1", &line, Expected::Number(number)));
     }
-    for line in five_items_in_every_order() {
+    for line in five_items_in_every_order("g1") {
         all.extend(session("order", "", &line, Expected::Number(10)));
     }
     let lent = lent_cases().into_iter();

@@ -26,7 +26,7 @@ impl Dice {
         self.0.wrapping_mul(0x2545_F491_4F6C_DD1D) >> 16
     }
 
-    fn below(&mut self, bound: usize) -> usize {
+    pub fn below(&mut self, bound: usize) -> usize {
         (self.roll() % bound.max(1) as u64) as usize
     }
 
@@ -34,12 +34,18 @@ impl Dice {
         self.below(bound) == 0
     }
 
-    fn pick<T: Copy>(&mut self, from: &[T]) -> T {
+    pub fn pick<T: Copy>(&mut self, from: &[T]) -> T {
         from[self.below(from.len())]
     }
 
     fn between(&mut self, least: i64, most: i64) -> i64 {
         least + (self.roll() % (most - least + 1) as u64) as i64
+    }
+
+    pub fn shuffle<T>(&mut self, list: &mut [T]) {
+        for place in (1..list.len()).rev() {
+            list.swap(place, self.below(place + 1));
+        }
     }
 }
 
@@ -869,9 +875,7 @@ fn write_line(dice: &mut Dice, draft: &mut Draft) -> Vec<u8> {
         items.push(comment(dice));
     }
     if dice.one_in(2) {
-        for place in (1..items.len()).rev() {
-            items.swap(place, dice.below(place + 1));
-        }
+        dice.shuffle(&mut items);
     }
     if dice.one_in(5) {
         items.insert(0, line_number(dice));

@@ -4,6 +4,7 @@ mod cases;
 mod codes;
 mod examples;
 mod generate;
+mod orders;
 mod places;
 mod rules;
 
@@ -15,9 +16,9 @@ use std::io::{self, BufRead, BufWriter, Error, ErrorKind, Read, Write};
 use std::path::Path;
 use std::process::ExitCode;
 
-const USAGE: &str = "second frames [--each] | forms | readings | answers | tally | codes, \
+const USAGE: &str = "second frames [--each] | forms | readings | answers | tally | alike | codes, \
 or examples [--cases | --answers | --programs DIR], \
-or lines SEED COUNT | blocks SEED COUNT | programs SEED COUNT DIR | long SEED BYTES";
+or lines SEED COUNT | blocks SEED COUNT | orders SEED COUNT | orders --wrong | programs SEED COUNT DIR | long SEED BYTES";
 
 fn main() -> ExitCode {
     let arguments: Vec<String> = std::env::args().skip(1).collect();
@@ -47,6 +48,7 @@ fn run(arguments: &[String], out: &mut impl Write) -> io::Result<bool> {
         ["readings"] => readings(input, out)?,
         ["answers"] => return answers(input, out),
         ["tally"] => return tally(input, out),
+        ["alike"] => return alike(input, out),
         ["examples"] => return examples::run(out),
         ["examples", "--cases"] => examples::write_cases(out)?,
         ["examples", "--answers"] => return examples::hold_answers(input, out),
@@ -54,6 +56,11 @@ fn run(arguments: &[String], out: &mut impl Write) -> io::Result<bool> {
         ["codes"] => codes::write_cases(out)?,
         ["lines", seed, count] => lines(whole(seed)?, whole(count)?, out)?,
         ["blocks", seed, count] => blocks(whole(seed)?, whole(count)?, out)?,
+        ["orders", "--wrong"] => orders::write_wrong_pairs(out)?,
+        ["orders", seed, count] => {
+            orders::write_five_items(out)?;
+            return orders::write_pairs(&mut Dice::new(whole(seed)?), whole(count)? as usize, out);
+        }
         ["programs", seed, count, folder] => programs(whole(seed)?, whole(count)?, Path::new(folder))?,
         ["long", seed, bytes] => {
             out.write_all(&generate::long_program(&mut Dice::new(whole(seed)?), whole(bytes)? as usize))?
@@ -248,4 +255,25 @@ fn tally(input: impl BufRead, out: &mut impl Write) -> io::Result<bool> {
         writeln!(out, "each but 4 must occur at least {LEAST} times, 4 never; {unread} answers cannot be read")?;
     }
     Ok(seen && unread == 0)
+}
+
+/// How many of the pairs among these answers, the first and second, the third and fourth, .., are the same in every
+/// column, and how many are not; false if one of them is not.
+fn alike(input: impl BufRead, out: &mut impl Write) -> io::Result<bool> {
+    let (mut first, mut same, mut differ): (Option<Vec<u8>>, u64, u64) = (None, 0, 0);
+    each_line(input, |text| {
+        match first.take() {
+            None => first = Some(text.to_vec()),
+            Some(before) if before == text => same += 1,
+            Some(_) => {
+                differ += 1;
+                if differ == 1 {
+                    writeln!(out, "answer {} is not as the one before", 2 * (same + differ))?;
+                }
+            }
+        }
+        Ok(())
+    })?;
+    writeln!(out, "{same} pairs the same, {differ} not")?;
+    Ok(differ == 0 && first.is_none())
 }

@@ -4,3 +4,4 @@ pub mod Derivation
 pub mod Typed
 pub mod Work
 pub mod Working
+pub mod Rearranged

@@ -13,6 +13,7 @@ pub mod InOrder
 pub mod InRange
 pub mod Sound
 pub mod Order
+pub mod AnyOrder
 pub mod Radii
 pub mod Fractions
 pub mod Nearest
