@@ -2,6 +2,11 @@
  * A session of a control: the lines of a program on standard input, worked from a fresh record, and what each
  * has the machine do. Where a firmware would drive the machine, this prints.
  *
+ *     session [FILE.var]
+ *
+ * With a parameter file the session begins with its parameters, origins, offset and system, and once the program is
+ * worked to its end they are written to it again.
+ *
  * The first refused line ends the session, since the lines after it were written for a machine that has worked
  * it: after G1 Z-3, a refused G0 Z100000 and then G0 X0 Y0 would be a rapid through the work. Which line it is,
  * counted from 1, and why, is told on standard error, for a wrong form with the line and a caret under the place
@@ -13,12 +18,13 @@
 #include <stdint.h>
 #include <stdio.h>
 
-#include "rs274.h"
+#include "rs274_parameters.h"
 
 static int64_t rec[RS274_RECORD] = RS274_FRESH;
 static int64_t table[RS274_TABLE];
 static int64_t out[RS274_COMMANDS * RS274_COMMAND];
 static bool block_delete; /* the operator's switch */
+static uint8_t file[1 << 20];
 
 /* ---- what the machine is to do */
 
@@ -111,9 +117,36 @@ static bool work(unsigned long which, const uint8_t *line, size_t length) {
     return false;
 }
 
+/* ---- the parameter file */
+
+static bool fail(const char *path, const char *why) {
+    fprintf(stderr, "session: %s: %s\n", path, why);
+    return false;
+}
+
+static bool load(const char *path) {
+    FILE *from = fopen(path, "rb");
+    if (from == NULL) return fail(path, "it cannot be read");
+    size_t length = fread(file, 1, sizeof file, from);
+    bool whole = ferror(from) == 0 && fgetc(from) == EOF;
+    fclose(from);
+    if (!whole) return fail(path, "it cannot be read whole");
+    uint32_t number = rs274_parameters_read(file, length, rec, RS274_RECORD, table, RS274_TABLE);
+    return number == RS274_FILE_TAKEN || fail(path, rs274_file_why(number));
+}
+
+static bool save(const char *path) {
+    struct rs274_file made = rs274_parameters_write(rec, RS274_RECORD, table, RS274_TABLE, file, sizeof file);
+    if (made.number != RS274_FILE_TAKEN) return fail(path, rs274_file_why(made.number));
+    FILE *to = fopen(path, "wb");
+    if (to == NULL) return fail(path, "it cannot be written");
+    bool whole = fwrite(file, 1, (size_t)made.count, to) == made.count;
+    return (fclose(to) == 0 && whole) || fail(path, "it cannot be written whole");
+}
+
 /* Lines end at a line feed, and one carriage return before it is dropped. A last line without a line feed
    counts if it has a byte. What is cut off a long line is past the bytes that make it too long. */
-int main(void) {
+static bool run(void) {
     static uint8_t line[RS274_LINE + 2]; /* a byte too many, and a carriage return */
     size_t length = 0;
     unsigned long which = 1;
@@ -123,12 +156,18 @@ int main(void) {
             continue;
         }
         if (length > 0 && line[length - 1] == '\r') length--;
-        if (!work(which++, line, length)) return 1;
+        if (!work(which++, line, length)) return false;
         length = 0;
     }
     if (ferror(stdin)) {
         fprintf(stderr, "session: line %lu could not be read\n", which);
-        return 1;
+        return false;
     }
-    return length == 0 || work(which, line, length) ? 0 : 1;
+    return length == 0 || work(which, line, length);
+}
+
+int main(int argc, char **argv) {
+    const char *path = argc > 1 ? argv[1] : NULL;
+    if (path != NULL && !load(path)) return 1;
+    return run() && (path == NULL || save(path)) ? 0 : 1;
 }

@@ -9,7 +9,7 @@
 
 /* Hundreds go up when something that a firmware relies on changes its meaning, ones when something is added.
    The headers and the libraries of one checkout belong together. */
-#define RS274_VERSION 400
+#define RS274_VERSION 401
 
 enum {
     RS274_LINE = 256,  /* the most bytes that a line may have, without its end marker */

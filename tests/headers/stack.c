@@ -9,6 +9,7 @@
 
 #include "rs274.h"
 #include "rs274_panel.h"
+#include "rs274_parameters.h"
 
 enum { ROOM = 1 << 20, PAINT = 0xA5, DEEPEST = 24, ANY = RS274_LINE };
 
@@ -16,6 +17,8 @@ static unsigned char room[ROOM] __attribute__((aligned(16)));
 static uint8_t line[RS274_LINE];
 static size_t line_length;
 static int64_t rec[RS274_RECORD], table[RS274_TABLE], out[RS274_COMMANDS * RS274_COMMAND];
+static uint8_t file[RS274_FILE];
+static size_t file_length;
 static uint32_t number;
 
 static void work(void) {
@@ -24,6 +27,16 @@ static void work(void) {
 }
 
 static void look(void) { number = rs274_form(line, line_length).number; }
+
+static void save(void) {
+    struct rs274_file made = rs274_parameters_write(rec, RS274_RECORD, table, RS274_TABLE, file, sizeof file);
+    number = made.number;
+    file_length = (size_t)made.count;
+}
+
+static void load(void) {
+    number = rs274_parameters_read(file, file_length, rec, RS274_RECORD, table, RS274_TABLE);
+}
 
 /* The bytes that a call has written to, of a painted stack. */
 static size_t depth(void (*call)(void)) {
@@ -101,6 +114,19 @@ static void begin(void) {
     table[1] = RS274_ONE; /* so that ##..#1 is a value */
 }
 
+/* The need of writing and of reading the longest file: neither calls itself, so that no file asks for more. */
+static size_t files(void) {
+    begin();
+    for (size_t i = RS274_ORIGINS; i < RS274_OFFSET + 3; i++) rec[i] = 1 - RS274_REACH;
+    for (size_t i = 1; i < RS274_TABLE; i++) table[i] = -999999999;
+    size_t write_need = depth(save);
+    if (number != RS274_FILE_TAKEN || file_length != RS274_FILE) return ROOM;
+    size_t read_need = depth(load);
+    if (number != RS274_FILE_TAKEN) return ROOM;
+    printf("stack: rs274_parameters_write %zu, rs274_parameters_read %zu of %d bytes\n", write_need, read_need, RS274_FILE_STACK);
+    return write_need > read_need ? write_need : read_need;
+}
+
 int main(void) {
     size_t most_line = 0, most_form = 0;
     for (size_t i = 0; i < sizeof lines / sizeof *lines; i++) {
@@ -116,5 +142,5 @@ int main(void) {
     }
     printf("stack: rs274_line %zu of %d bytes, rs274_form %zu of %d bytes\n", most_line, RS274_STACK, most_form,
            RS274_FORM_STACK);
-    return most_line > RS274_STACK || most_form > RS274_FORM_STACK ? 1 : 0;
+    return most_line > RS274_STACK || most_form > RS274_FORM_STACK || files() > RS274_FILE_STACK ? 1 : 0;
 }

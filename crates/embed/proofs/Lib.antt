@@ -3,3 +3,4 @@ pub mod Held
 pub mod Repacked
 pub mod Demands
 pub mod Soles
+pub mod FileDemands

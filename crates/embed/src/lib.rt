@@ -9,6 +9,12 @@ ghost use lib.Seq.{sets};
 ghost use Rattle.rules.specs.Reach.{counts, upTo};
 ghost use Rattle.rules.specs.Commands.{numbers};
 ghost use Rattle.embed.specs.Packing.{packed, numberAt, lengthsAt, unpacked, allUpTo, holdable, answered, Embedded};
+
+mod files;
+
+pub use files::Rs274File;
+pub use files::rs274_parameters_read;
+pub use files::rs274_parameters_write;
 use rules::Answer;
 use rules::Length;
 use rules::Record;
