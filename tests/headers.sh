@@ -1,6 +1,6 @@
 #!/bin/sh
-# headers.sh: the headers, each alone, in the standards of C and C++ that they serve; then both and their libraries in
-# one C++ program, which holds their names to what the libraries do; then what the libraries need: of the C library,
+# headers.sh: the headers, each alone, in the standards of C and C++ that they serve; then the control's and the panel's and
+# their libraries in one C++ program, which holds their names to what the libraries do; then what the libraries need: of the C library,
 # and of the stack.
 set -eu
 cd "$(dirname "$0")/.."
@@ -16,9 +16,9 @@ for header in include/*.h; do
 done
 sh tests/link.sh "embed panel" tests/headers/names.cpp $work/names
 $work/names
+sh tests/link.sh "embed panel mend" tests/headers/stack.c $work/stack
 if [ "$(uname -m)" = x86_64 ]; then
-    needed=$(nm -u target/staticlib/libembed.a target/staticlib/libpanel.a | sed -n 's/^ *U //p' | grep -vxE 'mem(cpy|move|set|cmp)' || true)
+    needed=$(nm -u target/staticlib/libembed.a target/staticlib/libpanel.a target/staticlib/libmend.a | sed -n 's/^ *U //p' | grep -vxE 'mem(cpy|move|set|cmp)' || true)
     [ -z "$needed" ] || { echo "headers: the libraries also need" $needed; exit 1; }
 fi
-sh tests/link.sh "embed panel" tests/headers/stack.c $work/stack
 $work/stack

@@ -8,6 +8,7 @@
 #include <string.h>
 
 #include "rs274.h"
+#include "rs274_mend.h"
 #include "rs274_panel.h"
 #include "rs274_parameters.h"
 
@@ -37,6 +38,11 @@ static void save(void) {
 static void load(void) {
     number = rs274_parameters_read(file, file_length, rec, RS274_RECORD, table, RS274_TABLE);
 }
+
+static uint8_t mended[2 * RS274_LINE];
+static size_t listed[RS274_ENTRY];
+
+static void mend(void) { number = rs274_mend(line, line_length, mended, sizeof mended, listed, RS274_ENTRY).number; }
 
 /* The bytes that a call has written to, of a painted stack. */
 static size_t depth(void (*call)(void)) {
@@ -105,6 +111,8 @@ static const struct {
     {"25 parameters", "X", "#", "1", "", DEEPEST + 1},
     {"25 functions of sums", "X", "ABS[1+", "1", "]", DEEPEST + 1},
     {"a long sum", "X[1", "+1", "]", "", ANY},
+    {"nested comments", "X1", "(", "a", ")", ANY},
+    {"a remark", "X1;", "(", "a", ")", ANY},
 };
 
 static void begin(void) {
@@ -128,7 +136,7 @@ static size_t files(void) {
 }
 
 int main(void) {
-    size_t most_line = 0, most_form = 0;
+    size_t most_line = 0, most_form = 0, most_mend = 0;
     for (size_t i = 0; i < sizeof lines / sizeof *lines; i++) {
         nest(lines[i].opening, lines[i].middle, lines[i].core, lines[i].closing, lines[i].most);
         begin();
@@ -139,8 +147,11 @@ int main(void) {
                (unsigned)answer, line_need, (unsigned)number, form_need);
         if (line_need > most_line) most_line = line_need;
         if (form_need > most_form) most_form = form_need;
+        size_t mend_need = depth(mend);
+        if (mend_need > most_mend) most_mend = mend_need;
     }
-    printf("stack: rs274_line %zu of %d bytes, rs274_form %zu of %d bytes\n", most_line, RS274_STACK, most_form,
-           RS274_FORM_STACK);
-    return most_line > RS274_STACK || most_form > RS274_FORM_STACK || files() > RS274_FILE_STACK ? 1 : 0;
+    printf("stack: rs274_line %zu of %d bytes, rs274_form %zu of %d bytes, rs274_mend %zu of %d bytes\n", most_line,
+           RS274_STACK, most_form, RS274_FORM_STACK, most_mend, RS274_MEND_STACK);
+    if (most_line > RS274_STACK || most_form > RS274_FORM_STACK || most_mend > RS274_MEND_STACK) return 1;
+    return files() > RS274_FILE_STACK ? 1 : 0;
 }

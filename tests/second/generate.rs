@@ -30,7 +30,7 @@ impl Dice {
         (self.roll() % bound.max(1) as u64) as usize
     }
 
-    fn one_in(&mut self, bound: usize) -> bool {
+    pub fn one_in(&mut self, bound: usize) -> bool {
         self.below(bound) == 0
     }
 

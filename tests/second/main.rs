@@ -4,6 +4,7 @@ mod cases;
 mod codes;
 mod examples;
 mod generate;
+mod mend;
 mod orders;
 mod places;
 mod rules;
@@ -18,7 +19,8 @@ use std::process::ExitCode;
 
 const USAGE: &str = "second frames [--each] | forms | readings | answers | tally | alike | codes, \
 or examples [--cases | --answers | --programs DIR], \
-or lines SEED COUNT | blocks SEED COUNT | orders SEED COUNT | orders --wrong | programs SEED COUNT DIR | long SEED BYTES";
+or mend (the list to standard error), \
+or lines SEED COUNT | blocks SEED COUNT | orders SEED COUNT | orders --wrong | programs SEED COUNT DIR | old SEED COUNT DIR | long SEED BYTES";
 
 fn main() -> ExitCode {
     let arguments: Vec<String> = std::env::args().skip(1).collect();
@@ -54,6 +56,7 @@ fn run(arguments: &[String], out: &mut impl Write) -> io::Result<bool> {
         ["examples", "--answers"] => return examples::hold_answers(input, out),
         ["examples", "--programs", folder] => examples::write_programs(Path::new(folder))?,
         ["codes"] => codes::write_cases(out)?,
+        ["mend"] => mend_text(input, out)?,
         ["lines", seed, count] => lines(whole(seed)?, whole(count)?, out)?,
         ["blocks", seed, count] => blocks(whole(seed)?, whole(count)?, out)?,
         ["orders", "--wrong"] => orders::write_wrong_pairs(out)?,
@@ -61,7 +64,8 @@ fn run(arguments: &[String], out: &mut impl Write) -> io::Result<bool> {
             orders::write_five_items(out)?;
             return orders::write_pairs(&mut Dice::new(whole(seed)?), whole(count)? as usize, out);
         }
-        ["programs", seed, count, folder] => programs(whole(seed)?, whole(count)?, Path::new(folder))?,
+        ["programs", seed, count, folder] => programs(whole(seed)?, whole(count)?, Path::new(folder), generate::program)?,
+        ["old", seed, count, folder] => programs(whole(seed)?, whole(count)?, Path::new(folder), mend::program)?,
         ["long", seed, bytes] => {
             out.write_all(&generate::long_program(&mut Dice::new(whole(seed)?), whole(bytes)? as usize))?
         }
@@ -143,6 +147,15 @@ fn fields(kind: i64) -> usize {
     }
 }
 
+// ---------------------------------------------------------------- Mending
+
+/// The mended text, and to standard error its list.
+fn mend_text(mut input: impl BufRead, out: &mut impl Write) -> io::Result<()> {
+    let mut text = Vec::new();
+    input.read_to_end(&mut text)?;
+    mend::mend(&text, out, &mut BufWriter::new(io::stderr().lock()))
+}
+
 // ---------------------------------------------------------------- Readings
 
 /// The table readings are made from.
@@ -192,11 +205,11 @@ fn lines(seed: u64, count: u64, out: &mut impl Write) -> io::Result<()> {
     Ok(())
 }
 
-fn programs(seed: u64, count: u64, folder: &Path) -> io::Result<()> {
+fn programs(seed: u64, count: u64, folder: &Path, program: fn(&mut Dice) -> Vec<u8>) -> io::Result<()> {
     fs::create_dir_all(folder)?;
     let mut dice = Dice::new(seed);
     for number in 0..count {
-        fs::write(folder.join(format!("{number:04}.ngc")), generate::program(&mut dice))?;
+        fs::write(folder.join(format!("{number:04}.ngc")), program(&mut dice))?;
     }
     Ok(())
 }
