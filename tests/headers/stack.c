@@ -8,6 +8,7 @@
 #include <string.h>
 
 #include "rs274.h"
+#include "rs274_index.h"
 #include "rs274_mend.h"
 #include "rs274_panel.h"
 #include "rs274_parameters.h"
@@ -43,6 +44,36 @@ static uint8_t mended[2 * RS274_LINE];
 static size_t listed[RS274_ENTRY];
 
 static void mend(void) { number = rs274_mend(line, line_length, mended, sizeof mended, listed, RS274_ENTRY).number; }
+
+static void nest(const char *opening, const char *middle, const char *core, const char *closing, size_t most);
+
+static uint8_t text[RS274_TEXT];
+static uint32_t entries[RS274_INDEX];
+static rs274_indexed indexed;
+
+static void build_index(void) { indexed = rs274_index_build(text, sizeof text, entries); }
+
+static void replace_line(void) {
+    indexed = rs274_index_replace(text, sizeof text, entries, indexed.count, 1, (const uint8_t *)"N90000", 6);
+}
+
+static void find_number(void) { number = rs274_index_find(entries, indexed.count, 90000).line; }
+
+/* A text with a number on every second line, the others nested as deep as they can be. */
+static void fill_text(void) {
+    size_t n = 0;
+    memset(text, ' ', sizeof text);
+    for (unsigned i = 0; n + 6 + RS274_LINE + 2 < sizeof text; i++) {
+        char label[8];
+        snprintf(label, sizeof label, "N%05u", i);
+        memcpy(text + n, label, 6);
+        text[n + 6] = '\n';
+        nest("/", "[1+", "1", "]", ANY);
+        memcpy(text + n + 7, line, line_length);
+        n += 7 + line_length;
+        text[n++] = '\n';
+    }
+}
 
 /* The bytes that a call has written to, of a painted stack. */
 static size_t depth(void (*call)(void)) {
@@ -150,8 +181,14 @@ int main(void) {
         size_t mend_need = depth(mend);
         if (mend_need > most_mend) most_mend = mend_need;
     }
+    fill_text();
+    size_t build_need = depth(build_index), replace_need = depth(replace_line), find_need = depth(find_number);
+    if (indexed.number != RS274_INDEXED || number != 1) return 1;
     printf("stack: rs274_line %zu of %d bytes, rs274_form %zu of %d bytes, rs274_mend %zu of %d bytes\n", most_line,
            RS274_STACK, most_form, RS274_FORM_STACK, most_mend, RS274_MEND_STACK);
+    printf("stack: rs274_index_build %zu, rs274_index_replace %zu, rs274_index_find %zu of %d bytes\n", build_need,
+           replace_need, find_need, RS274_INDEX_STACK);
     if (most_line > RS274_STACK || most_form > RS274_FORM_STACK || most_mend > RS274_MEND_STACK) return 1;
+    if (build_need > RS274_INDEX_STACK || replace_need > RS274_INDEX_STACK || find_need > RS274_INDEX_STACK) return 1;
     return files() > RS274_FILE_STACK ? 1 : 0;
 }

@@ -4,6 +4,7 @@ mod cases;
 mod codes;
 mod examples;
 mod generate;
+mod index;
 mod mend;
 mod orders;
 mod places;
@@ -20,7 +21,8 @@ use std::process::ExitCode;
 const USAGE: &str = "second frames [--each] | forms | readings | answers | tally | alike | codes, \
 or examples [--cases | --answers | --programs DIR], \
 or mend (the list to standard error), \
-or lines SEED COUNT | blocks SEED COUNT | orders SEED COUNT | orders --wrong | programs SEED COUNT DIR | old SEED COUNT DIR | long SEED BYTES";
+or lines SEED COUNT | blocks SEED COUNT | orders SEED COUNT | orders --wrong | programs SEED COUNT DIR | old SEED COUNT DIR | long SEED BYTES, \
+or texts SEED COUNT | indexes";
 
 fn main() -> ExitCode {
     let arguments: Vec<String> = std::env::args().skip(1).collect();
@@ -66,6 +68,8 @@ fn run(arguments: &[String], out: &mut impl Write) -> io::Result<bool> {
         }
         ["programs", seed, count, folder] => programs(whole(seed)?, whole(count)?, Path::new(folder), generate::program)?,
         ["old", seed, count, folder] => programs(whole(seed)?, whole(count)?, Path::new(folder), mend::program)?,
+        ["texts", seed, count] => texts(whole(seed)?, whole(count)?, out)?,
+        ["indexes"] => return indexes(input, out),
         ["long", seed, bytes] => {
             out.write_all(&generate::long_program(&mut Dice::new(whole(seed)?), whole(bytes)? as usize))?
         }
@@ -224,6 +228,26 @@ fn answers(input: impl BufRead, out: &mut impl Write) -> io::Result<bool> {
     let mut all_read = true;
     each_line(input, |text| match cases::case_of(text) {
         Some(case) => writeln!(out, "{}", cases::work(&case).text()),
+        None => {
+            all_read = false;
+            writeln!(out, "no case")
+        }
+    })?;
+    Ok(all_read)
+}
+
+// ---------------------------------------------------------------- Indexes
+
+fn texts(seed: u64, count: u64, out: &mut impl Write) -> io::Result<()> {
+    let mut dice = Dice::new(seed);
+    (0..count).try_for_each(|place| writeln!(out, "{}", index::case(&mut dice, place)))
+}
+
+/// The answer of each case of an index; false if one of them cannot be read.
+fn indexes(input: impl BufRead, out: &mut impl Write) -> io::Result<bool> {
+    let mut all_read = true;
+    each_line(input, |text| match std::str::from_utf8(text).ok().and_then(index::answer) {
+        Some(answer) => writeln!(out, "{answer}"),
         None => {
             all_read = false;
             writeln!(out, "no case")

@@ -46,15 +46,15 @@ decimal-append v [] es = refl
 decimal-append v (d ∷ ds) es = decimal-append (v * 10 + (d - 48)) ds es
 
 -- digits after a number move it up by as many places, and what they write by themselves is below one of its units
-record Places (v : ℕ) (ds : List ℕ) : Type 0 where
-  rest : ℕ
-  is : decimal v ds ≡ v * 10 ^ length ds + rest
-  below : rest < 10 ^ length ds
+pub record Places (v : ℕ) (ds : List ℕ) : Type 0 where
+  pub rest : ℕ
+  pub is : decimal v ds ≡ v * 10 ^ length ds + rest
+  pub below : rest < 10 ^ length ds
 
 digit-low : (b : ℕ) → digit b ≡ true → b - 48 ≤ 9
 digit-low b e = omega (arith, leb-true b 57 (and-eq-true-iff (leb 48 b) (leb b 57) .0 e .1))
 
-moved-up : (v : ℕ) (l : List ℕ) → Places v (takeWhile digit l)
+pub moved-up : (v : ℕ) (l : List ℕ) → Places v (takeWhile digit l)
 unfolding decimal
 moved-up v [] = record { rest = 0; is = omega arith; below = omega arith }
 moved-up v (b ∷ l) = go (digit b) refl (moved-up (v * 10 + (b - 48)) l)

@@ -10,6 +10,7 @@ pub mod Carrying
 pub mod Passing
 pub mod Gathering
 pub mod Beginning
+pub mod Labelling
 pub mod Guarding
 pub mod Reading
 pub mod Stops

@@ -29,9 +29,12 @@ use Rattle.text.specs.declared.Prepared.the-variants.{Bytes, TooLong as NoRoom}
 use Rattle.reader.specs.Pass.{guarded}
 use Rattle.reader.specs.Reading.{Spaces, zeros, stored, stopOf, counted, outcome, leftFor, Left, left, Reads, formAnswer}
 use Rattle.reader.specs.Gather.{checked, leftByLine, typedIn, asTyped, formSaid}
+use Rattle.reader.specs.Number.{numberAt, numberOn}
 use Rattle.reader.specs.declared.line.Checked.{Checked}
 use Rattle.reader.specs.declared.line.Reading.{Reading}
 use Rattle.reader.specs.declared.line.Reading.the-variants.{Deep, Wrong, TooLong}
+use Rattle.reader.specs.declared.label.LineNumber.{LineNumber}
+use Rattle.reader.specs.declared.label.LineNumber.the-variants.{Without}
 use Rattle.reader.proofs.Guarding.{guarded-line}
 use Rattle.reader.proofs.Clash.{clash}
 
@@ -141,3 +144,15 @@ form-by-form l {text} {c} h f e =
 pub long-form : (l : List ℕ) → 256 < length l → ByForm l (formAnswer l) (record { number = 2; place = 0 })
 unfolding panel panelPlace
 long-form l h = record { byTree = λ u d. rw (lt-ltb 256 (length l) h); byPlace = λ g n p. rw (lt-ltb 256 (length l) h) }
+
+-- ---- the N number
+
+pub number-by-form : (l : List ℕ) {text : List ℕ} {r : LineNumber} → length l ≤ 256 → text ≡ strip l → r ≡ numberAt (lineT text) → ByForm l (numberOn l) r
+unfolding numberOn
+number-by-form l {text} {r} h f e =
+    let k : r ≡ numberAt (lineT (strip l)) = e ∙ ap (λ (x : List ℕ). numberAt (lineT x)) f in
+    record { byTree = λ u d. k ∙ ap numberAt (line-found l d) ∙ rw (le-ltb 256 (length l) h); byPlace = λ g n p. k ∙ ap numberAt (line-stuck l g) }
+
+pub long-number : (l : List ℕ) → 256 < length l → ByForm l (numberOn l) Without
+unfolding numberOn
+long-number l h = record { byTree = λ u d. rw (lt-ltb 256 (length l) h); byPlace = λ g n p. refl }

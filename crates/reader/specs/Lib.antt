@@ -6,3 +6,4 @@ pub mod Marks
 pub mod Cursor
 pub mod Reading
 pub mod Gather
+pub mod Number

@@ -4,6 +4,7 @@
 // wherever it stands, comes before too deep a nesting, and that before the numbers 5 to 7.
 mod cursor;
 mod items;
+mod label;
 mod line;
 mod mark;
 mod numbers;
@@ -12,6 +13,8 @@ mod spelling;
 mod terms;
 mod values;
 
+pub use label::LineNumber;
+pub use label::line_number;
 pub use line::FormAnswer;
 pub use line::Reading;
 pub use line::form;

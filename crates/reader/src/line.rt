@@ -46,13 +46,13 @@ pub struct FormAnswer {
 }
 
 // Whether the form is right to the line's end, and if not, where among the prepared bytes it is wrong.
-enum Checked {
+pub(crate) enum Checked {
     Right,
     Wrong(usize),
 }
 
 // The place past N and its one to five digits, where N stands here.
-fn label_end(text: &[u8], at: usize) -> Spelt
+pub(crate) fn label_end(text: &[u8], at: usize) -> Spelt
     requires { ⌜ at ≤ length (now text) ⌝ }
     ensures { λ r. ⌜ r ≡ speltTo (labelT (now (text .entry)) at) ⌝ }
 {
@@ -73,7 +73,7 @@ fn label_end(text: &[u8], at: usize) -> Spelt
 }
 
 // The form of the items from here on.
-fn check_from(text: &[u8], at: usize) -> Checked
+pub(crate) fn check_from(text: &[u8], at: usize) -> Checked
     requires { ⌜ at ≤ length (now text) ⌝ }
     ensures { λ r. ⌜ r ≡ checked (itemsT (now (text .entry)) at) ⌝ }
 {

@@ -1,0 +1,16 @@
+pub mod Entries
+pub mod Holding
+pub mod Halving
+pub mod Ending
+pub mod Walking
+pub mod Built
+pub mod Bearing
+pub mod Gathering
+pub mod Moving
+pub mod Finding
+pub mod Examples
+pub mod Replaced
+pub mod Bringing
+pub mod Handing
+pub mod Lasting
+pub mod Soles

@@ -1,0 +1,5 @@
+pub mod Index
+pub mod Held
+pub mod Update
+pub mod Lines
+pub mod Space
