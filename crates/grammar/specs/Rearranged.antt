@@ -2,7 +2,9 @@
 -- Assumes nothing.
 use mathlib.Core.Path.{_≡_}
 use mathlib.Core.List.{List, [], _∷_, _++_}
+use Prim.Native.Nat.{ℕ}
 use Rattle.grammar.specs.Grammar.{Item, word, setting, comment, Mark, Label, Line, line}
+use Rattle.grammar.specs.Derivation.{Derives}
 
 -- the words of a derivation, and its settings, as they stand
 abbrev pub wordsOf : List Item → List Item
@@ -26,3 +28,11 @@ pub data Shuffled {A : Type 0} : List A → List A → Type 0 where
 -- "Comments may move": of them nothing is asked
 pub data Rearranged : Line → Line → Type 0 where
   rearranged : (m : Mark) (n : Label) {is js : List Item} → Shuffled (wordsOf is) (wordsOf js) → settingsOf is ≡ settingsOf js → Rearranged (line m n is) (line m n js)
+
+-- the typed line s′ is the typed line s with its words rearranged: what the two are made of is
+pub record Reordered (s s′ : List ℕ) : Type 0 where
+  pub of : Line
+  pub to : Line
+  pub before : Derives of s
+  pub after : Derives to s′
+  pub moved : Rearranged of to

@@ -15,7 +15,7 @@ use Rattle.laws.proofs.Bools.{and-left, and-right, T-eq}
 use Rattle.grammar.specs.Bytes.{byte, bytes, among}
 use Rattle.grammar.specs.Grammar.{Value, Item, word, setting, comment, Stroke, Mark, unmarked, plain, conditional, Label, Line, line}
 use Rattle.grammar.specs.Derivation.{Derives, derived}
-use Rattle.grammar.specs.Rearranged.{wordsOf, settingsOf, Shuffled, none, place, Rearranged, rearranged}
+use Rattle.grammar.specs.Rearranged.{wordsOf, settingsOf, Shuffled, none, place, Rearranged, Reordered, rearranged}
 use Rattle.grammar.specs.Work.{itemWork, itemsWork, markWork, itemDepth, itemsDepth, markDepth}
 use Rattle.grammar.specs.Working.{Step, skip, give, stop, Took, end, stopped, took, after, value, expression, stepOf, entries, markStep, lineEntries, Contents, contents}
 use Rattle.rules.specs.Meaning.{Entry, wordIs, settingIs, arithmetic, wordOf, settingAt, settingOf, runs, conditionOf, parameterOf, stoppedBy, meets, Said, Setting, words, settings}
@@ -460,17 +460,11 @@ module _ (switch : Bool) (r : Record) (table out : List ℤ) where
       let d = dou (blockOf (words (c′ .entries))) in
       rw (block, long, unheeded, deep, met, work, set, uns, d)
 
-  -- "It must not: if a line is accepted, then any line of at most 256 bytes made by rearranging its words .. is accepted too, with the same commands, record and table".
-  -- In plain words: let `s` be a typed line that is accepted, that is, what `Right` allows for it carries number 0. Let `s′` be a typed line of at most 256 bytes
-  -- with the same mark, condition and line number, which stay first; with the same settings, in the same order among themselves; with the same words, in any order,
-  -- before, between or behind the settings; and with comments and blanks anywhere. Then, with the same switch, record, table and output space, whatever `Right` allows
-  -- for `s′` is what it allows for `s`, to the last field: accepted, with the same count, work, record, table and output, and so the same commands.
-  -- `Derives t s` and `Derives t′ s′` say what the two typed lines are made of; a line of right form has one such tree and no other (`decided`, `unique`, crate grammar).
-  -- Of a line that is refused nothing is said: its words may meet another number first (`X[1/0] Y#0` is 6, `Y#0 X[1/0]` is 7).
-  pub any-order : {t t′ : Line} {s s′ : List ℕ} → Derives t s → Derives t′ s′ → Rearranged t t′ → length s′ ≤ 256 →
+  -- the same of the trees that derive the two lines
+  by-trees : {t t′ : Line} {s s′ : List ℕ} → Derives t s → Derives t′ s′ → Rearranged t t′ → length s′ ≤ 256 →
       {a a′ : After} → Right s switch r table out a → numberOf (a .outcome .answer) ≡ 0 → Right s′ switch r table out a′ → a′ ≡ a
   unfolding answerTo
-  any-order {s = s} {s′ = s′} d d′ (rearranged m n {is} {js} o e) short p zero p′ =
+  by-trees {s = s} {s′ = s′} d d′ (rearranged m n {is} {js} o e) short p zero p′ =
       let t = line m n is in
       let t′ = line m n js in
       let c = contents (arithmetic table) t in
@@ -484,6 +478,17 @@ module _ (switch : Bool) (r : Record) (table out : List ℤ) where
       (f .1 .0 ∙ sym (le-ltb 256 (length s′) short)) (unread-is switch d ∙ sym (unread-is switch d′))
       (ap (λ k. max (markDepth m) k) (same-depth table m n is js o e on)) (same-stop table m n is js o e on) (ap (λ k. markWork m + k) (same-work table m n is js o e on))
       (same-settings table m n is js o e on) (same-unserved w) (λ b. same-doubled b w) (same-block w (once (words (c .entries)) b (g .1 .1 .1 .1 .1 .1 .0)))) ∙ sym (p .byTree t d)
+
+  -- "It must not: if a line is accepted, then any line of at most 256 bytes made by rearranging its words .. is accepted too, with the same commands, record and table".
+  -- In plain words: let `s` be a typed line that is accepted, that is, what `Right` allows for it carries number 0. Let `s′` be a typed line of at most 256 bytes
+  -- with the same mark, condition and line number, which stay first; with the same settings, in the same order among themselves; with the same words, in any order,
+  -- before, between or behind the settings; and with comments and blanks anywhere. Then, with the same switch, record, table and output space, whatever `Right` allows
+  -- for `s′` is what it allows for `s`, to the last field: accepted, with the same count, work, record, table and output, and so the same commands.
+  -- `Reordered` says it of the one derivation that each of the two has (`unique`, crate grammar).
+  -- Of a line that is refused nothing is said: its words may meet another number first (`X[1/0] Y#0` is 6, `Y#0 X[1/0]` is 7).
+  pub any-order : {s s′ : List ℕ} → Reordered s s′ → length s′ ≤ 256 →
+      {a a′ : After} → Right s switch r table out a → numberOf (a .outcome .answer) ≡ 0 → Right s′ switch r table out a′ → a′ ≡ a
+  any-order q short p zero p′ = by-trees (q .before) (q .after) (q .moved) short p zero p′
 
 -- two words that change places, and a comment that comes between
 pub neighbours : (m : Mark) (n : Label) (b c : ℕ) (v w : Value) (bs : List ℕ) → Rearranged (line m n (word b v ∷ word c w ∷ [])) (line m n (word c w ∷ comment bs ∷ word b v ∷ []))
