@@ -61,6 +61,7 @@ none_fails l h = go (read_line (strip l)) refl (line_read (strip l)) (missed h)
     go : (m : Read Line) → read_line (strip l) ≡ m → Whole m → answer (read_line (strip l)) ≡ none → (q : List ℕ) × (read_line (strip l) ≡ fail q)
     go (fail q) e w n = (q, e)
     go (got t []) e whole n = absurd (let k : some t ≡ none = sym (ap answer e) ∙ n in let z : ◌≡◌ {A = ℕ} 0 1 = cc in omega arith)
+    go (got t (_ ∷ _)) e w n = elim w [ ]
 
 -- ---- of the prepared line: some right line begins with the bytes that were passed, and none with those and the byte after them
 

@@ -176,9 +176,11 @@ number_stops s = sign (read_sign s) (sign_front s)
     fraction : (g : Sign) (r : List ℕ) → s ≡ spell_sign g ++ r → (m : Read Fraction) → Front write_fraction (drop_while digit r) m →
         Stops write_number NumOk s (bind m (λ f q. finish g (take_while digit r) f q))
     fraction g r e (got f q) (first d) = number_ends s g r f q e d
+    fraction g r e (fail _) x'' = elim x'' [ ]
 
     sign : (m : Read Sign) → Front spell_sign s m → Stops write_number NumOk s (bind m (λ g r. bind (read_fraction (drop_while digit r)) (λ f q. finish g (take_while digit r) f q)))
     sign (got g r) (first e) = fraction g r e (read_fraction (drop_while digit r)) (fraction_front (drop_while digit r))
+    sign (fail _) x'' = elim x'' [ ]
 
 -- ---- values
 
