@@ -1,5 +1,7 @@
 // Arcs: the two faults of number 14. A way leads from the centre to a place and is given by its lengths on the plane's two
 // axes. Radii are compared by their squares, in numbers of two parts where 64 bits do not hold them.
+#![tactic(auto)]
+
 ghost use Rattle.std.specs.Prelude.{◌≡◌, true, ◌*◌, ◌≤◌, eqb, ltb};
 ghost use Rattle.rules.specs.Numbers.{within};
 ghost use Rattle.rules.specs.Arcs.{square, slack, unequal};

@@ -1,5 +1,7 @@
 // The arithmetic of expressions: operators, functions, and the parameters that values name. Every public
 // function answers for every argument.
+#![tactic(auto)]
+
 mod functions;
 mod operations;
 mod residues;

@@ -1,5 +1,7 @@
 // One line's words worked against the record: numbers 8 to 15, the steps of an accepted line, and
 // its commands.
+#![tactic(auto)]
+
 mod limits;
 mod motion;
 mod steps;

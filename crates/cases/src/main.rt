@@ -1,6 +1,8 @@
 // Works the lines of standard input as rs274 does, but goes on after a refusal, so that examples of
 // both sides stand in one input. A percent sign, on a line of its own, starts anew, so that they do
 // not disturb each other.
+#![tactic(auto)]
+
 ghost use Rattle.std.specs.Prelude.{◌≤◌, length};
 
 use libc::{STDIN_FILENO, STDOUT_FILENO};

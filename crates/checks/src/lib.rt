@@ -1,5 +1,7 @@
 // What a line asks for and what its words lack, told from its summary and a mode or two, before the
 // record is worked.
+#![tactic(auto)]
+
 mod marks;
 mod mode;
 mod words;

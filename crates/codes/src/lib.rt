@@ -1,4 +1,6 @@
 // G and M codes: the code that a value stands for, the modal group of each code, and the work system that a code selects.
+#![tactic(auto)]
+
 ghost use Rattle.std.specs.Prelude.{◌≡◌};
 ghost use Rattle.rules.specs.Codes.{g_code, m_code, code_up_to, no_code, system_number};
 

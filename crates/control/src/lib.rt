@@ -1,4 +1,6 @@
 // One line at a time: the interpreter, the record lent to each line, and the same with plain parameters.
+#![tactic(auto)]
+
 ghost use Rattle.std.specs.Prelude.{◌≡◌, false, ◌≤◌, length, take, set};
 ghost use Rattle.rules.specs.Promise.{Right, after, apply, unread};
 ghost use Rattle.block.specs.Execution.{execution};

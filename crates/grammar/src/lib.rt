@@ -1,5 +1,6 @@
 // The operators and functions of document 01's expressions. Derivation trees and the code that
 // works values out name the same ones, so nothing has to be translated between the two.
+#![tactic(auto)]
 
 #[derive(Drop)]
 pub enum Op {

@@ -1,5 +1,7 @@
 // The index of N numbers (request 10): what a number's place is. The entries of an index lie in one slice,
 // three numbers each: the N number, its first line, from 1, and that line's first byte, from 0.
+#![tactic(auto)]
+
 mod building;
 mod lines;
 mod replacing;

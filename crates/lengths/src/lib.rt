@@ -1,5 +1,7 @@
 // The lengths of document 01: the G20/G21 conversion, sums and differences, and what is asked of
 // lengths. No other crate does arithmetic on a length. Every public function answers for every argument.
+#![tactic(auto)]
+
 ghost use Rattle.std.specs.Prelude.{◌≡◌, eqb, nat_abs, ◌+ℤ◌, ◌-ℤ◌};
 ghost use Rattle.rules.specs.Numbers.{within};
 ghost use Rattle.rules.specs.Reach.{converted};

@@ -1,5 +1,7 @@
 // What a firmware links to find a line by its N number: the index of a program text, on plain numbers.
 // include/rs274_index.h declares it for C.
+#![tactic(auto)]
+
 ghost use Rattle.std.specs.Prelude.{◌≡◌, min};
 ghost use Rattle.index.specs.Held.{sought};
 ghost use Rattle.lookup.specs.Plain.{answered, placed, Built, Replaced};

@@ -1,4 +1,6 @@
 // Marks of a typed line.
+#![tactic(auto)]
+
 ghost use Rattle.std.specs.Prelude.{◌≡◌, not, ◌&&◌, drop};
 ghost use Rattle.rules.specs.Promise.{unread, plain_mark, opens};
 ghost use Rattle.marks.specs.Blanks.{past_blanks};

@@ -1,4 +1,6 @@
 // Old programs mended (request 13): a line by its three repairs in their order, and whole texts line by line.
+#![tactic(auto)]
+
 mod cutting;
 mod line;
 mod repairs;

@@ -1,4 +1,6 @@
 // The commands of an accepted line: what is asked for, in document 01's order, counted and then written.
+#![tactic(auto)]
+
 ghost use Rattle.std.specs.Prelude.{◌≡◌, cond, [], ◌∷◌, ◌++◌, ◌*◌, ◌+◌, ◌/◌, ◌≤◌, eqb, ltb, pos, length};
 ghost use Rattle.rules.specs.Block.{has};
 ghost use Rattle.rules.specs.Commands.{command, eight, numbers, written};

@@ -1,5 +1,7 @@
 // What the panel, written in C, links: two numbers for the bytes typed, for length and form only.
 // include/rs274_panel.h declares it for C.
+#![tactic(auto)]
+
 ghost use Rattle.grammar.specs.Derivation.{ByForm};
 ghost use Rattle.rules.specs.Promise.{panel, panel_place};
 

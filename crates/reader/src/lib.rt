@@ -2,6 +2,8 @@
 // with their values. The line is prepared once and then read in one pass, which works the values out as
 // it goes. A value that is refused does not end the pass: the form is read on, so that a wrong form,
 // wherever it stands, comes before too deep a nesting, and that before the numbers 5 to 7.
+#![tactic(auto)]
+
 mod cursor;
 mod items;
 mod label;

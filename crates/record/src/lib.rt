@@ -1,4 +1,6 @@
 // The session's record: as it is at the start, and whether every field is in its range.
+#![tactic(auto)]
+
 ghost use Rattle.std.specs.Prelude.{◌≡◌, ◌&&◌, leb};
 ghost use Rattle.rules.specs.Reach.{in_reach, up_to, in_order, fresh};
 

@@ -1,5 +1,7 @@
 // Mends a program (crate mend), line by line: reads standard input to its end, writes the mended lines to standard
 // output, and the list, in words, to standard error.
+#![tactic(auto)]
+
 ghost use Rattle.std.specs.Prelude.{◌≡◌, ◌+◌, ◌≤◌, length, take};
 ghost use Rattle.mend.specs.Cutting.{part};
 ghost use Rattle.rs274_mend.specs.Held.{Held};

@@ -1,5 +1,7 @@
 // Reads a parameter file from standard input and writes it anew, in shortest form, to standard output; or says on
 // standard error which line is refused, and why, and writes nothing.
+#![tactic(auto)]
+
 ghost use Rattle.std.specs.Prelude.{◌≤◌, length};
 
 use libc::{STDERR_FILENO, STDIN_FILENO, STDOUT_FILENO};

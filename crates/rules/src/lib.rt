@@ -1,5 +1,6 @@
 // The plain structs and enums that the rules of document 01 speak of. Their meaning is in specs/.
 // Arrays by axis go X, Y, Z.
+#![tactic(auto)]
 
 // A whole number of ten-thousandths of a program unit.
 #[derive(Drop)]

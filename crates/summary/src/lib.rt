@@ -1,4 +1,6 @@
 // The summary of a line's words, in one pass: its words by letter, its codes by group, and what numbers 8 and 9 ask of them.
+#![tactic(auto)]
+
 mod filing;
 mod words;
 

@@ -1,5 +1,7 @@
 // A line as the grammar takes it: outside comments spaces and tabs are dropped and letters raised to
 // upper case; a comment, from `(` to the first `)`, is kept as it is.
+#![tactic(auto)]
+
 ghost use Rattle.std.specs.Prelude.{◌≡◌, false, cond, ◌-◌, ◌≤◌, length};
 ghost use Rattle.grammar.specs.Derivation.{blank, raise};
 ghost use Rattle.grammar.specs.Typed.{keeps, stays, typed_from};

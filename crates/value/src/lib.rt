@@ -1,6 +1,8 @@
 // The values of document 01: numbers as written, the parameters and whole numbers that values name, and what
 // is asked of values. This crate and `arithmetic` alone do arithmetic on a value. Every public function
 // answers for every argument.
+#![tactic(auto)]
+
 mod rounding;
 mod signs;
 
