@@ -9,14 +9,14 @@ use Rattle.control.specs.contracts.interpret_in as interpretIn
 use Rattle.control.specs.contracts.step as step
 use Rattle.control.specs.contracts.work as work
 
-pub interpret_sole : Sole interpret.ended (λ M. interpret.clauses)
+pub interpret_sole : Sole interpret.ended (λ M 𝓤. interpret.clauses)
 interpret_sole = record {
   says = _;
   is = λ M 𝓤 𝓛 mem run κs a ghost r e. refl;
   one = λ κs a r r' ws ws' p q. let e = by_form_sole p q in (λ i. record { outcome = (e i).outcome; work = (e i).work; place = (e i).place }, λ i. (tt, (tt, (tt, ((e i).table, ((e i).out, tt))))));
 }
 
-pub interpret_in_sole : Sole interpretIn.ended (λ M. interpretIn.clauses)
+pub interpret_in_sole : Sole interpretIn.ended (λ M 𝓤. interpretIn.clauses)
 interpret_in_sole = record {
   says = _;
   is = λ M 𝓤 𝓛 mem run κs a ghost r e. refl;
@@ -26,7 +26,7 @@ interpret_in_sole = record {
       (λ i. record { outcome = (e i).outcome; work = (e i).work; place = (e i).place }, λ i. (tt, (tt, (tt, ((e i).table, ((e i).out, ((l i).letters, ((l i).values, ((l i).numbers, ((l i).amounts, tt))))))))));
 }
 
-pub step_sole : Sole step.ended (λ M. step.clauses)
+pub step_sole : Sole step.ended (λ M 𝓤. step.clauses)
 step_sole = record {
   says = _;
   is = λ M 𝓤 𝓛 mem run κs a ghost r e. refl;
@@ -36,7 +36,7 @@ step_sole = record {
       (λ i. record { outcome = (e i).outcome; work = (e i).work; place = (e i).place }, λ i. (tt, (tt, (h i, ((e i).table, ((e i).out, tt))))));
 }
 
-pub work_sole : Sole work.ended (λ M. work.clauses)
+pub work_sole : Sole work.ended (λ M 𝓤. work.clauses)
 work_sole = record {
   says = _;
   is = λ M 𝓤 𝓛 mem run κs a ghost r e. refl;

@@ -7,10 +7,10 @@ use Rattle.index.specs.contracts.find as find
 use Rattle.index.specs.contracts.building.build as build
 use Rattle.index.specs.contracts.replacing.replace as replace
 
-pub find_sole : Sole find.ended (λ M. find.clauses)
+pub find_sole : Sole find.ended (λ M 𝓤. find.clauses)
 find_sole = record { says = _; is = λ M 𝓤 𝓛 m n κs a g r e. refl; one = λ κs a r r' ws ws' p q. (alike p q, refl) }
 
-pub build_sole : Sole build.ended (λ M. build.clauses)
+pub build_sole : Sole build.ended (λ M 𝓤. build.clauses)
 build_sole = record {
   says = _;
   is = λ M 𝓤 𝓛 m n κs a g r e. refl;
@@ -19,7 +19,7 @@ build_sole = record {
       (λ i. (e i).answer, λ i. (tt, ((e i).index, tt)));
 }
 
-pub replace_sole : Sole replace.ended (λ M. replace.clauses)
+pub replace_sole : Sole replace.ended (λ M 𝓤. replace.clauses)
 replace_sole = record {
   says = _;
   is = λ M 𝓤 𝓛 m n κs a g r e. refl;

@@ -8,10 +8,10 @@ use Rattle.mend.specs.contracts.line.mend_line as mend_line
 use Rattle.mend.specs.contracts.whole.mend as mend
 use Rattle.mend.specs.contracts.whole.rs274_mend as rs274_mend
 
-pub ended_lines_sole : Sole ended_lines.ended (λ M. ended_lines.clauses)
+pub ended_lines_sole : Sole ended_lines.ended (λ M 𝓤. ended_lines.clauses)
 ended_lines_sole = record { says = _; is = λ M 𝓤 𝓛 m n κs a g r e. refl; one = λ κs a r r' ws ws' p q. (alike p q, refl) }
 
-pub mend_line_sole : Sole mend_line.ended (λ M. mend_line.clauses)
+pub mend_line_sole : Sole mend_line.ended (λ M 𝓤. mend_line.clauses)
 mend_line_sole = record {
   says = _;
   is = λ M 𝓤 𝓛 m n κs a g r e. refl;
@@ -20,7 +20,7 @@ mend_line_sole = record {
       (λ i. (e i).answer, λ i. (tt, ((e i).out, tt)));
 }
 
-pub mend_sole : Sole mend.ended (λ M. mend.clauses)
+pub mend_sole : Sole mend.ended (λ M 𝓤. mend.clauses)
 mend_sole = record {
   says = _;
   is = λ M 𝓤 𝓛 m n κs a g r e. refl;

@@ -8,7 +8,7 @@ use Rattle.reader.specs.contracts.line.read as read
 use Rattle.reader.specs.contracts.line.form as form
 use Rattle.reader.specs.contracts.label.line_number as line_number
 
-pub read_sole : Sole read.ended (λ M. read.clauses)
+pub read_sole : Sole read.ended (λ M 𝓤. read.clauses)
 read_sole = record {
   says = _;
   is = λ M 𝓤 𝓛 m n κs a g r e. refl;
@@ -17,8 +17,8 @@ read_sole = record {
       (λ i. (e i).answer, λ i. (tt, (tt, ((e i).lent.letters, ((e i).lent.values, ((e i).lent.numbers, ((e i).lent.amounts, tt)))))));
 }
 
-pub form_sole : Sole form.ended (λ M. form.clauses)
+pub form_sole : Sole form.ended (λ M 𝓤. form.clauses)
 form_sole = record { says = _; is = λ M 𝓤 𝓛 m n κs a g r e. refl; one = λ κs a r r' ws ws' p q. (by_form_sole p q, refl) }
 
-pub line_number_sole : Sole line_number.ended (λ M. line_number.clauses)
+pub line_number_sole : Sole line_number.ended (λ M 𝓤. line_number.clauses)
 line_number_sole = record { says = _; is = λ M 𝓤 𝓛 m n κs a g r e. refl; one = λ κs a r r' ws ws' p q. (by_form_sole p q, refl) }

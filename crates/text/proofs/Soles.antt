@@ -5,8 +5,8 @@ use Rattle.laws.proofs.Sole.{Sole, alike}
 use Rattle.text.specs.contracts.prepare as prepare
 use Rattle.text.specs.contracts.typed_place as typedPlace
 
-pub prepare_sole : Sole prepare.ended (λ M. prepare.clauses)
+pub prepare_sole : Sole prepare.ended (λ M 𝓤. prepare.clauses)
 prepare_sole = record { says = _; is = λ M 𝓤 𝓛 mem run κs a ghost r e. refl; one = λ κs a r r' ws ws' p q. (alike p.0 q.0, λ i. (tt, (alike p.1 q.1 i, tt))) }
 
-pub typed_place_sole : Sole typedPlace.ended (λ M. typedPlace.clauses)
+pub typed_place_sole : Sole typedPlace.ended (λ M 𝓤. typedPlace.clauses)
 typed_place_sole = record { says = _; is = λ M 𝓤 𝓛 mem run κs a ghost r e. refl; one = λ κs a r r' ws ws' p q. (alike p q, refl) }

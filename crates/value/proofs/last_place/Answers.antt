@@ -1,0 +1,16 @@
+use mathlib.Core.Path.{sym}
+use Rattle.value.proofs.Written.{place_one}
+use native.Mathlib.Omega.{arith}
+use Rattle.value.proofs.last_place.Goals as goal
+
+pub returns-in-0 : goal.returns-in-0
+returns-in-0 c = rw c.in-0.is
+
+pub returns-in-1 : goal.returns-in-1
+returns-in-1 c = rw c.in-1.is
+
+pub returns-in-2 : goal.returns-in-2
+returns-in-2 c = rw c.in-2.is
+
+pub returns-in-3 : goal.returns-in-3
+returns-in-3 c = rw c.in-3.is
