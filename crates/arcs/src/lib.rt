@@ -11,7 +11,7 @@ ghost use Rattle.arcs.specs.Wide.{wide, counted};
 use rules::Length;
 
 // A number below 2^128 in two parts: high * 2^64 + low.
-#[derive(Drop)]
+#[derive(Clone, Copy)]
 struct Wide {
     high: u64,
     low: u64,

@@ -17,7 +17,7 @@ use rules::{Block, Command, Length, Record, Word};
 
 // Whether a line moves, and by an arc; the mode of motion in force; where the line ends, which is the
 // position where it does not move; and the centre of its arc, zeros where there is none.
-#[derive(Drop)]
+#[derive(Clone, Copy)]
 pub(crate) struct Travel {
     pub(crate) moving: bool,
     pub(crate) arc: bool,

@@ -6,7 +6,7 @@ use super::{holdable, pack, unpack};
 
 // The refusal, 0 where the file is written, and how many bytes it has.
 #[repr(C)]
-#[derive(Drop)]
+#[derive(Clone, Copy)]
 pub struct Rs274File {
     pub number: u32,
     pub count: u64,

@@ -16,7 +16,7 @@ use rules::{Answer, Length, Record, Value};
 // which its form breaks, 0 unless the number is 3, and how many values and operations were worked out,
 // 0 unless it was accepted.
 #[repr(C)]
-#[derive(Drop)]
+#[derive(Clone, Copy)]
 pub struct Rs274Answer {
     pub number: u32,
     pub count: u64,

@@ -12,7 +12,7 @@ use rules::Answer;
 
 // Where the text goes on after what is put; or that nothing was put, since the commands are not all
 // there or the text has no room for their frames.
-#[derive(Drop)]
+#[derive(Clone, Copy)]
 pub enum Put {
     At(usize),
     Full,

@@ -2,7 +2,7 @@
 // works values out name the same ones, so nothing has to be translated between the two.
 #![tactic(auto)]
 
-#[derive(Drop)]
+#[derive(Clone, Copy)]
 pub enum Op {
     Add,
     Sub,
@@ -14,7 +14,7 @@ pub enum Op {
     Xor,
 }
 
-#[derive(Drop)]
+#[derive(Clone, Copy)]
 pub enum Func {
     Abs,
     Fix,

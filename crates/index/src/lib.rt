@@ -15,7 +15,7 @@ pub use replacing::replace;
 use space::stands;
 
 // The place of a number; or that no line bears it.
-#[derive(Drop)]
+#[derive(Clone, Copy)]
 pub enum Found {
     At { line: u32, start: u32 },
     Nowhere,
@@ -23,7 +23,7 @@ pub enum Found {
 
 // What a call made of the index: so many entries it has now; or the number of a refusal, which leaves
 // text and index as they were.
-#[derive(Drop)]
+#[derive(Clone, Copy)]
 pub enum Answer {
     Entries(usize),
     Refused(u8),

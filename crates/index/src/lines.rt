@@ -3,14 +3,14 @@ ghost use Rattle.std.specs.Prelude.{◌≤◌, ◌<◌, length};
 ghost use Rattle.index.specs.Lines.{FeedAt, EndAt, CutAt, Walked};
 
 // A line's end, before its line feed and one carriage return, and the place past them.
-#[derive(Drop)]
+#[derive(Clone, Copy)]
 pub(crate) struct Cut {
     pub(crate) end: usize,
     pub(crate) next: usize,
 }
 
 // A line of a text: its first byte, its end, and where the next one starts; or that there is none.
-#[derive(Drop)]
+#[derive(Clone, Copy)]
 pub(crate) enum Line {
     At(usize, usize, usize),
     Missing,

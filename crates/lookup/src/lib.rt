@@ -10,7 +10,7 @@ use index::{Answer, Found};
 
 // 0 and how many entries the index has now; or the number of a refusal, and 0.
 #[repr(C)]
-#[derive(Drop)]
+#[derive(Clone, Copy)]
 pub struct Rs274Indexed {
     pub number: u32,
     pub count: u64,
@@ -18,7 +18,7 @@ pub struct Rs274Indexed {
 
 // A number's first line, from 1, and that line's first byte, from 0; or 0 and 0 where no line bears it.
 #[repr(C)]
-#[derive(Drop)]
+#[derive(Clone, Copy)]
 pub struct Rs274Place {
     pub line: u32,
     pub start: u32,

@@ -4,7 +4,7 @@ ghost use Rattle.mend.specs.Joining.{ended_lines};
 ghost use Rattle.mend.specs.Cutting.{before_feed, Returned, Spans};
 
 // Where a line's bytes end, and where the next line starts.
-#[derive(Drop)]
+#[derive(Clone, Copy)]
 pub(crate) struct Span {
     pub(crate) end: usize,
     pub(crate) next: usize,

@@ -9,7 +9,7 @@ ghost use Rattle.mend.specs.Line.{Repaired, leaves, MendsLine};
 use super::repairs::{copy, flatten, lone_percent, put_remark, remark_at};
 
 // What a line came to.
-#[derive(Drop)]
+#[derive(Clone, Copy)]
 pub enum Mended {
     // It was right. Nothing is written.
     Already,
@@ -23,7 +23,7 @@ pub enum Mended {
 }
 
 // How many bytes a repaired line has, and which repairs changed it, added up likewise.
-#[derive(Drop)]
+#[derive(Clone, Copy)]
 struct Repair {
     length: usize,
     which: usize,

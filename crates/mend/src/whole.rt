@@ -9,7 +9,7 @@ use super::repairs::copy;
 
 // What became of a text.
 #[repr(C)]
-#[derive(Drop)]
+#[derive(Clone, Copy)]
 pub struct Tally {
     // 0, or 40 where the space is too small for the mended text: then nothing is written, and the rest is 0.
     pub number: u32,
@@ -22,7 +22,7 @@ pub struct Tally {
 }
 
 // Where a line's mended bytes end in the space, whether it is listed, and the numbers to be listed.
-#[derive(Drop)]
+#[derive(Clone, Copy)]
 struct Noted {
     filled: usize,
     listed: bool,
@@ -31,7 +31,7 @@ struct Noted {
 }
 
 // How far a text is put: bytes filled, lines put, lines listed, numbers of the list used.
-#[derive(Drop)]
+#[derive(Clone, Copy)]
 struct Held {
     filled: usize,
     lines: usize,

@@ -11,14 +11,14 @@ ghost use Rattle.orders.specs.Laying.{laid};
 use rules::{Block, Code, Command, Length, Value};
 
 // A command, and whether the line asks for it.
-#[derive(Drop)]
+#[derive(Clone, Copy)]
 pub struct Order {
     pub asked: bool,
     pub command: Command,
 }
 
 // How many commands were written, or that the space is too short for them.
-#[derive(Drop)]
+#[derive(Clone, Copy)]
 pub enum Written {
     Commands(u64),
     NoRoom,

@@ -9,7 +9,7 @@ ghost use Rattle.rules.specs.Promise.{panel, panel_place};
 // derivation. With 3 the place says where the form breaks: how many bytes of the line, as typed, some
 // line of right form also begins with. With any other number it is 0.
 #[repr(C)]
-#[derive(Drop)]
+#[derive(Clone, Copy)]
 pub struct Rs274FormAnswer {
     pub number: u32,
     pub place: u64,

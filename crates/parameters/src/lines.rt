@@ -18,21 +18,21 @@ ghost use Rattle.parameters.specs.Told.{LineAt, SignAt, PartsOf, ParsedAs, value
 use super::places::{Place, decimals, stands_for};
 
 // Where a line ends, without its line feed and one carriage return before that, and where the next begins.
-#[derive(Drop)]
+#[derive(Clone, Copy)]
 pub struct Line {
     pub end: usize,
     pub next: usize,
 }
 
 // Whether there is a minus sign, and the place past the sign.
-#[derive(Drop)]
+#[derive(Clone, Copy)]
 pub struct Signed {
     pub negative: bool,
     pub next: usize,
 }
 
 // Where the digits before the point stand, and those behind it that count.
-#[derive(Drop)]
+#[derive(Clone, Copy)]
 pub struct Parts {
     pub negative: bool,
     pub from: usize,
@@ -41,21 +41,21 @@ pub struct Parts {
     pub last: usize,
 }
 
-#[derive(Drop)]
+#[derive(Clone, Copy)]
 pub enum Parsed {
     Number(Parts),
     Wrong,
 }
 
 // A number's value in units of its last decimal, where it is one of those allowed.
-#[derive(Drop)]
+#[derive(Clone, Copy)]
 pub enum Valued {
     Worth(i64),
     Unfit,
 }
 
 // What a line says: a parameter number and its value (0 where that is passed over), or why it is refused.
-#[derive(Drop)]
+#[derive(Clone, Copy)]
 pub enum Said {
     Gives(usize, i64),
     Refused(u8),

@@ -10,21 +10,21 @@ use super::save::is_disordered;
 use rules::{Length, Record};
 
 // The refusal, 0 for an accepted file, and the record as the file leaves it.
-#[derive(Drop)]
+#[derive(Clone, Copy)]
 pub struct Loaded {
     pub number: u8,
     pub rec: Record,
 }
 
 // What the file gives a number, and the place to go on from for the numbers behind it.
-#[derive(Drop)]
+#[derive(Clone, Copy)]
 pub struct Given {
     pub value: i64,
     pub next: usize,
 }
 
 // The G92 offset from the file, and the place to go on from.
-#[derive(Drop)]
+#[derive(Clone, Copy)]
 pub struct Offset {
     pub lengths: [Length; 3],
     pub next: usize,

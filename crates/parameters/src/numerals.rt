@@ -9,7 +9,7 @@ ghost use Rattle.parameters.specs.Writing.{digits_of, without, last, fraction, s
 ghost use Rattle.parameters.specs.Text.{Cut};
 
 // How many decimals count, and the digits with no zeros at their end.
-#[derive(Drop)]
+#[derive(Clone, Copy)]
 struct Decimals {
     count: usize,
     rest: u64,

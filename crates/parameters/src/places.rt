@@ -3,7 +3,7 @@ ghost use Rattle.std.specs.Prelude.{◌≡◌};
 ghost use Rattle.parameters.specs.Places.{stands_for, origin_at, decimals};
 
 // An entry of the table; the place of an axis in the G92 offset, and in the origins; the system; or nothing.
-#[derive(Drop)]
+#[derive(Clone, Copy)]
 pub enum Place {
     Entry(usize),
     Offset(usize),

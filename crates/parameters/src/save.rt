@@ -10,7 +10,7 @@ use super::places::{Place, decimals, stands_for};
 use rules::{Length, Record, Value};
 
 // The refusal, 0 where the file is written, and how many bytes it has.
-#[derive(Drop)]
+#[derive(Clone, Copy)]
 pub struct Written {
     pub number: u8,
     pub count: usize,

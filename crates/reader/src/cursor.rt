@@ -6,7 +6,7 @@ ghost use Rattle.reader.specs.Levels.{item_at};
 
 use super::items::{Item, item_at};
 
-#[derive(Drop)]
+#[derive(Clone, Copy)]
 pub(crate) struct Reader<'a> {
     pub(crate) line: &'a [u8],
     pub(crate) at: usize,

@@ -13,7 +13,7 @@ use rules::{Parameter, Value, Worked};
 // One item, each with the place past it: a word's letter, value and work; a setting's parameter number,
 // value and work; a comment; an item of right form that is refused with a number, 5 to 7; or one of right
 // form that nests too deep. Or the place where the form is wrong; or the line's end.
-#[derive(Drop)]
+#[derive(Clone, Copy)]
 pub(crate) enum Item {
     Word(u8, Value, u64, usize),
     Setting(usize, Value, u64, usize),

@@ -11,7 +11,7 @@ use super::spelling::Spelt;
 use text::{Prepared, prepare};
 
 // A line's N number, or that it has none.
-#[derive(Drop)]
+#[derive(Clone, Copy)]
 pub enum LineNumber {
     N(u32),
     Without,

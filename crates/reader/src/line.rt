@@ -15,7 +15,7 @@ use rules::Value;
 use text::{Prepared, prepare, typed_place};
 
 // What became of a line.
-#[derive(Drop)]
+#[derive(Clone, Copy)]
 pub enum Reading {
     // It is read: so many words and so many settings are stored, and so much work it was.
     Read(usize, usize, u64),
@@ -33,14 +33,14 @@ pub enum Reading {
 
 // The form check's answer: 0 for a right form, 2 for more than 256 bytes, 3 for a wrong form; and with
 // 3 the place in the line, as typed, at which its form breaks, with any other 0.
-#[derive(Drop)]
+#[derive(Clone, Copy)]
 pub struct FormAnswer {
     pub number: u8,
     pub place: usize,
 }
 
 // Whether the form is right to the line's end, and if not, where among the prepared bytes it is wrong.
-#[derive(Drop)]
+#[derive(Clone, Copy)]
 pub(crate) enum Checked {
     Right,
     Wrong(usize),

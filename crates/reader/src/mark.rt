@@ -12,7 +12,7 @@ use super::values::{Nested, value_at};
 use rules::{Value, Worked};
 
 // What stands first: no mark, a plain one, or one with a condition, and whether that one is `/`.
-#[derive(Drop)]
+#[derive(Clone, Copy)]
 enum First {
     Unmarked,
     Plain,
@@ -21,7 +21,7 @@ enum First {
 
 // What the mark leaves to the reading of the items: the work of its condition, whether that nests too
 // deep, and whether it stops the line, with which number.
-#[derive(Drop)]
+#[derive(Clone, Copy)]
 pub(crate) struct Begun {
     pub(crate) work: u64,
     pub(crate) deep: bool,
@@ -30,7 +30,7 @@ pub(crate) struct Begun {
 }
 
 // What a mark leaves and the place past it, or the place where its form is wrong.
-#[derive(Drop)]
+#[derive(Clone, Copy)]
 pub(crate) enum Marked {
     Past(Begun, usize),
     Wrong(usize),

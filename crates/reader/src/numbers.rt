@@ -8,7 +8,7 @@ ghost use Rattle.reader.specs.Places.{valued, pointed, with_digit, SignAt, Digit
 use super::values::Valued;
 
 // Whether there is a minus sign, and the place past the sign.
-#[derive(Drop)]
+#[derive(Clone, Copy)]
 pub(crate) struct Signed {
     pub(crate) negative: bool,
     pub(crate) next: usize,
@@ -16,7 +16,7 @@ pub(crate) struct Signed {
 
 // The number that digits write, held at ten thousand million, which is past every range, and the place
 // past them.
-#[derive(Drop)]
+#[derive(Clone, Copy)]
 pub(crate) struct Digits {
     pub(crate) number: u64,
     pub(crate) next: usize,

@@ -11,7 +11,7 @@ use super::spelling::{Following, Opening, Spelt, following_at, opening_at};
 use super::values::Valued;
 
 // A place on the way: whether a value is due there or one is done, and how many brackets are open.
-#[derive(Drop)]
+#[derive(Clone, Copy)]
 pub(crate) struct Way {
     pub(crate) at: usize,
     pub(crate) due: bool,
@@ -19,7 +19,7 @@ pub(crate) struct Way {
 }
 
 // One step on, or the end of the way.
-#[derive(Drop)]
+#[derive(Clone, Copy)]
 pub(crate) enum Step {
     On(Way),
     End(Spelt),

@@ -8,14 +8,14 @@ ghost use Rattle.reader.specs.Places.{spelt_to, opening, following, function_aft
 use grammar::{Func, Op};
 
 // The place past a spelling, or that of the first byte that is not the spelling's.
-#[derive(Drop)]
+#[derive(Clone, Copy)]
 pub(crate) enum Spelt {
     To(usize),
     Not(usize),
 }
 
 // What opens a value that is no number: `#`, `[`, or a function's name with its `[`.
-#[derive(Drop)]
+#[derive(Clone, Copy)]
 pub(crate) enum Opening {
     Parameter(usize),
     Bracket(usize),
@@ -24,7 +24,7 @@ pub(crate) enum Opening {
 }
 
 // What follows a value in an expression: `]`, or an operator.
-#[derive(Drop)]
+#[derive(Clone, Copy)]
 pub(crate) enum Following {
     Close(usize),
     Operator(Op, usize),

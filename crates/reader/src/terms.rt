@@ -7,13 +7,13 @@ ghost use Rattle.reader.specs.Pass.{settled, pushed};
 use grammar::Op;
 use rules::Worked;
 
-#[derive(Drop)]
+#[derive(Clone, Copy)]
 pub(crate) enum Pending {
     Clear,
     Waits(Op, Worked),
 }
 
-#[derive(Drop)]
+#[derive(Clone, Copy)]
 pub(crate) struct State {
     pub(crate) waiting: Pending,
     pub(crate) term: Worked,

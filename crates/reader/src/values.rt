@@ -18,7 +18,7 @@ use rules::Worked;
 const LEVELS: usize = 24;
 
 // What a number came to and the place past it, or the place where its form is wrong.
-#[derive(Drop)]
+#[derive(Clone, Copy)]
 pub(crate) enum Valued {
     To(Worked, usize),
     Wrong(usize),
@@ -26,7 +26,7 @@ pub(crate) enum Valued {
 
 // What a value came to, its work and the place past it; or that it nests too deep, and the place past it;
 // or the place where its form is wrong.
-#[derive(Drop)]
+#[derive(Clone, Copy)]
 pub(crate) enum Nested {
     To(Worked, u64, usize),
     Deep(usize),

@@ -9,7 +9,7 @@ ghost use Rattle.rs274_mend.specs.Held.{Held};
 use libc::{STDERR_FILENO, STDIN_FILENO, STDOUT_FILENO};
 
 // What was read: so many bytes, or nothing, which is the end of the input; or it cannot be read.
-#[derive(Drop)]
+#[derive(Clone, Copy)]
 enum Got {
     Bytes(usize),
     End,
@@ -17,7 +17,7 @@ enum Got {
 }
 
 // How many bytes of a line that has not ended are held, how many lines were mended, and whether to go on.
-#[derive(Drop)]
+#[derive(Clone, Copy)]
 struct Kept {
     held: usize,
     lines: u64,

@@ -7,7 +7,7 @@ ghost use Rattle.std.specs.Prelude.{◌≤◌, length};
 use libc::{STDERR_FILENO, STDIN_FILENO, STDOUT_FILENO};
 
 // What was read: so many bytes, or nothing, which is the end of the input; or it cannot be read.
-#[derive(Drop)]
+#[derive(Clone, Copy)]
 enum Got {
     Bytes(usize),
     End,
@@ -15,7 +15,7 @@ enum Got {
 }
 
 // How many bytes the file has, where there was room for it.
-#[derive(Drop)]
+#[derive(Clone, Copy)]
 enum Whole {
     Bytes(usize),
     TooLong,

@@ -10,7 +10,7 @@ ghost use Rattle.summary.specs.Words.{said, lettered, summary_of};
 use rules::Block;
 
 // What numbers 8 and 9 ask is beside the block: a code is not served; something stands twice.
-#[derive(Drop)]
+#[derive(Clone, Copy)]
 pub struct Summary {
     pub block: Block,
     pub unserved: bool,

@@ -8,7 +8,7 @@ ghost use Rattle.summary.specs.Keys.{entry_of, code_entry};
 use rules::{Code, Value};
 
 // A word by its key: the value of a word, the code of a code. Keys of letters are below 32, those of G groups from 32 and those of M groups from 48.
-#[derive(Drop)]
+#[derive(Clone, Copy)]
 pub(crate) struct Entry {
     pub key: u8,
     pub value: i64,

@@ -8,7 +8,7 @@ ghost use Rattle.grammar.specs.Typed.{keeps, stays, typed_from};
 ghost use Rattle.text.specs.Prepare.{plain, Copied, bytes_of, prepared};
 
 // How many bytes the prepared line has, where there was room for the line.
-#[derive(Drop)]
+#[derive(Clone, Copy)]
 pub enum Prepared {
     Bytes(usize),
     TooLong,
