@@ -11,8 +11,7 @@ use Rattle.rules.specs.Codes.{m_group}
 use Rattle.codes.proofs.Ranges.{Spans, filed_in, by_ranges}
 use Rattle.codes.proofs.Ranges.Range.{◌codesFrom◌}
 use Rattle.codes.proofs.Ranges.Spans.{◌spans◌}
-use Rattle.codes.proofs.m_ranges.m_group.Tie as tie
-use Rattle.codes.proofs.m_ranges.m_group.Statement.{statement}
+use Rattle.codes.proofs.m_ranges.m_group.Goals as goal
 
 -- the groups as document 01 lists them, by their ranges
 abbrev ranges : List Spans
@@ -44,51 +43,41 @@ beside first code other = by (leb first code) refl
     by true p = le-ltb code (first + 1) (omega (arith, leb-true first code p, other))
     by false p = refl
 
-returns : tie.Need-returns
+pub returns-then-code-le2 : goal.returns-then-code-le2
+returns-then-code-le2 c =
+    filed c.args.code 4 (rw (inside 0 3 c.args.code (omega arith) (omega (arith, c.if-code-le2.true))) refl)
+
+pub returns-then-code-le5 : goal.returns-then-code-le5
+returns-then-code-le5 c =
+    filed c.args.code 7 (rw (
+      above 0 3 c.args.code (omega (arith, c.if-code-le2.false)),
+      below 30 1 c.args.code (omega (arith, c.if-code-le5.true)),
+      below 6 1 c.args.code (omega (arith, c.if-code-le5.true)),
+      inside 3 3 c.args.code (omega (arith, c.if-code-le2.false)) (omega (arith, c.if-code-le5.true)),
+    ) refl)
+
+pub returns-then-code-eq6 : goal.returns-then-code-eq6
+returns-then-code-eq6 c = filed c.args.code 6 (rw c.if-code-eq6.true refl)
+
+pub returns-then-code-le9 : goal.returns-then-code-le9
+returns-then-code-le9 c =
+    filed c.args.code 8 (rw (
+      above 0 3 c.args.code (omega (arith, c.if-code-le5.false)),
+      below 30 1 c.args.code (omega (arith, c.if-code-le9.true)),
+      above 6 1 c.args.code (omega (arith, c.if-code-le5.false, c.if-code-eq6.false)),
+      above 3 3 c.args.code (omega (arith, c.if-code-le5.false)),
+      inside 7 3 c.args.code (omega (arith, c.if-code-le5.false, c.if-code-eq6.false)) (omega (arith, c.if-code-le9.true)),
+    ) refl)
+
+pub returns-then-code-eq30 : goal.returns-then-code-eq30
+returns-then-code-eq30 c = filed c.args.code 4 (rw c.if-code-eq30.true refl)
+
+pub returns : goal.returns
 returns c =
-    let code = c.before.args.code in
-    filed code 4 (rw (inside 0 3 code (omega arith) (omega (arith, c.if1.true))) refl)
-
-returns-2 : tie.Need-returns-2
-returns-2 c =
-    let code = c.before.before.args.code in
-    filed code 7 (rw (
-      above 0 3 code (omega (arith, c.before.if1.false)),
-      below 30 1 code (omega (arith, c.if2.true)),
-      below 6 1 code (omega (arith, c.if2.true)),
-      inside 3 3 code (omega (arith, c.before.if1.false)) (omega (arith, c.if2.true)),
+    filed c.args.code 255 (rw (
+      above 0 3 c.args.code (omega (arith, c.if-code-le9.false)),
+      beside 30 c.args.code c.if-code-eq30.false,
+      above 6 1 c.args.code (omega (arith, c.if-code-le9.false)),
+      above 3 3 c.args.code (omega (arith, c.if-code-le9.false)),
+      above 7 3 c.args.code (omega (arith, c.if-code-le9.false)),
     ) refl)
-
-returns-3 : tie.Need-returns-3
-returns-3 c = filed c.before.before.before.args.code 6 (rw c.if3.true refl)
-
-returns-4 : tie.Need-returns-4
-returns-4 c =
-    let code = c.before.before.before.before.args.code in
-    let past = c.before.before.if2.false in
-    let change = c.before.if3.false in
-    filed code 8 (rw (
-      above 0 3 code (omega (arith, past)),
-      below 30 1 code (omega (arith, c.if4.true)),
-      above 6 1 code (omega (arith, past, change)),
-      above 3 3 code (omega (arith, past)),
-      inside 7 3 code (omega (arith, past, change)) (omega (arith, c.if4.true)),
-    ) refl)
-
-returns-5 : tie.Need-returns-5
-returns-5 c = filed c.before.before.before.before.before.args.code 4 (rw c.if5.true refl)
-
-returns-6 : tie.Need-returns-6
-returns-6 c =
-    let code = c.before.before.before.before.before.args.code in
-    let past = c.before.if4.false in
-    filed code 255 (rw (
-      above 0 3 code (omega (arith, past)),
-      beside 30 code c.if5.false,
-      above 6 1 code (omega (arith, past)),
-      above 3 3 code (omega (arith, past)),
-      above 7 3 code (omega (arith, past)),
-    ) refl)
-
-pub m_group_spec : {M : Type 1} → statement M
-m_group_spec = tie.close (tie.spec returns returns-2 returns-3 returns-4 returns-5 returns-6)
