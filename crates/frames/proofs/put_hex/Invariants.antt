@@ -1,0 +1,17 @@
+-- `frames::put_hex` meets its contract: what the text will be in the end stays the same from digit to digit.
+-- Assumes nothing.
+use mathlib.Core.Path.{◌≡◌, refl, ap, sym, ◌∙◌}
+use Prim.Native.Nat.{ℕ, ◌≤◌}
+use native.Mathlib.Omega.{arith}
+use lib.Seq.{sets}
+use lib.ListN.{length, length-set}
+use Rattle.rules.specs.Frames.{hex}
+use Rattle.frames.proofs.Packed.{bytes_of, bytes_packed}
+use Rattle.frames.proofs.Digits.{byte_put}
+use Rattle.frames.proofs.put_hex.Given as goal
+
+abbrev pub invariant-loop-left : goal.invariant-loop-left
+invariant-loop-left l = (l.left ≤ l.digits) × (length l.text ≡ length l.initial.text) × (sets l.text l.at (bytes_of l.left l.rest) ≡ sets l.initial.text l.at (hex l.digits l.number))
+
+abbrev pub decreases-loop-left : goal.decreases-loop-left
+decreases-loop-left l = l.left
