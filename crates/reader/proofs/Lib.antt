@@ -12,7 +12,7 @@ pub mod Gathering
 pub mod Beginning
 pub mod Labelling
 pub mod Guarding
-pub mod Reading
+pub mod LineRead
 pub mod Stops
 pub mod Demand3
 pub mod Soles

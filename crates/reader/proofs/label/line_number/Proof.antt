@@ -1,7 +1,7 @@
 -- `reader::label::line_number` meets its contract: the number of the prepared line is that of the derivation.
 -- Assumes nothing.
 use mathlib.Core.Path.{refl}
-use Rattle.reader.proofs.Reading.{front_is, front_within, front_long, short, too_long, number_by_form, long_number}
+use Rattle.reader.proofs.LineRead.{front_is, front_within, front_long, short, too_long, number_by_form, long_number}
 use borrow.Author.Rules.{rules}
 use Rattle.reader.proofs.label.line_number.Statement.{statement}
 use Rattle.reader.proofs.label.line_number.Tie as tie

@@ -1,4 +1,4 @@
-use Rattle.reader.proofs.Reading.{front_is, front_within, front_long, short, too_long, form_by_form, long_form}
+use Rattle.reader.proofs.LineRead.{front_is, front_within, front_long, short, too_long, form_by_form, long_form}
 use mathlib.Core.Path.{refl}
 use borrow.Author.Rules.{rules}
 use Rattle.reader.proofs.line.form.Statement.{statement}

@@ -8,7 +8,7 @@ use Rattle.reader.specs.Gather.{tidied, as_typed}
 use Rattle.reader.specs.declared.line.Reading.{Reading}
 use Rattle.reader.specs.declared.line.Reading.TheVariants.{Read as Whole, Stopped, Deep, Wrong, TooLong}
 use Rattle.reader.specs.contracts.line.Reading.{the_type}
-use Rattle.reader.proofs.Reading.{front_is, front_within, front_long, front_short, short, too_long, reads_by_form, long_by_form}
+use Rattle.reader.proofs.LineRead.{front_is, front_within, front_long, front_short, short, too_long, reads_by_form, long_by_form}
 use borrow.Author.Rules.{rules}
 use Rattle.reader.proofs.line.read.Statement.{statement}
 use Rattle.reader.proofs.line.read.Tie as tie
