@@ -1,0 +1,9 @@
+-- `checks::marks::either_axis` meets its contract.
+-- Assumes nothing.
+use mathlib.Core.Path.{refl}
+use mathlib.Core.Bool.{or-false}
+use borrow.Author.Rules.{rules}
+use Rattle.checks.proofs.marks.either_axis.Goals as goal
+
+pub returns : goal.returns
+returns c = rw or-false refl

@@ -1,0 +1,18 @@
+-- `checks::marks::plane_axes` meets its contract.
+-- Assumes nothing.
+use mathlib.Core.Path.{refl}
+use borrow.Author.Tests.{eq-eqb, ne_eqb}
+use Rattle.rules.specs.Arcs.{plane_axes}
+use Rattle.checks.proofs.marks.plane_axes.Goals as goal
+
+pub returns-then-plane-eq170 : goal.returns-then-plane-eq170
+unfolding plane_axes
+returns-then-plane-eq170 c = rw (eq-eqb c.args.plane 170 c.if-plane-eq170.true) refl
+
+pub returns-then-plane-eq180 : goal.returns-then-plane-eq180
+unfolding plane_axes
+returns-then-plane-eq180 c = rw (ne_eqb c.args.plane 170 c.if-plane-eq170.false, eq-eqb c.args.plane 180 c.if-plane-eq180.true) refl
+
+pub returns : goal.returns
+unfolding plane_axes
+returns c = rw (ne_eqb c.args.plane 170 c.if-plane-eq170.false, ne_eqb c.args.plane 180 c.if-plane-eq180.false) refl
