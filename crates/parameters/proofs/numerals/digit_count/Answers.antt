@@ -1,0 +1,24 @@
+-- `parameters::numerals::digit_count` meets its contract.
+-- Assumes nothing.
+use mathlib.Core.Path.{◌≡◌, refl}
+use Prim.Native.Nat.{ℕ, ◌+◌, ◌≤◌}
+use native.Mathlib.Omega.{arith}
+use lib.ListN.{length}
+use Rattle.parameters.specs.Writing.{digits_of}
+use Rattle.parameters.proofs.Puts.{count_one, count_step}
+use Rattle.parameters.proofs.numerals.digit_count.Goals as goal
+
+pub loop-rest-init : goal.loop-rest-init
+loop-rest-init c = (omega arith, omega arith)
+
+pub overflow_add-count : goal.overflow_add-count
+overflow_add-count c = omega arith
+
+pub loop-rest-smaller : goal.loop-rest-smaller
+loop-rest-smaller c = omega arith
+
+pub loop-rest-preserved : goal.loop-rest-preserved
+loop-rest-preserved c = (omega (arith, count_step c.loop-rest.rest (omega arith)), omega arith)
+
+pub returns : goal.returns
+returns c = (omega (arith, count_one c.loop-rest.rest (omega arith)), omega arith)

@@ -1,0 +1,17 @@
+-- `parameters::numerals::put_digits` meets its contract.
+-- Assumes nothing.
+use mathlib.Core.Path.{◌≡◌, refl, sym, ap, ◌∙◌}
+use Prim.Native.Nat.{ℕ, ◌+◌, ◌-◌, ◌/◌, ◌≤◌}
+use native.Mathlib.Omega.{arith}
+use lib.Seq.{sets}
+use lib.ListN.{length, length-set, set}
+use Rattle.parameters.specs.Writing.{last, last_digit}
+use Rattle.parameters.proofs.Puts.{digit_put}
+use Rattle.parameters.proofs.numerals.digit.Reads as digit-reads
+use Rattle.parameters.proofs.numerals.put_digits.Given as goal
+
+abbrev pub invariant-loop-left : goal.invariant-loop-left
+invariant-loop-left l = (l.left ≤ l.many) × (length l.text ≡ length l.initial.text) × (sets l.text l.at (last l.left l.rest) ≡ sets l.initial.text l.at (last l.many l.number))
+
+abbrev pub decreases-loop-left : goal.decreases-loop-left
+decreases-loop-left l = l.left

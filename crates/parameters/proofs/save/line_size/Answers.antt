@@ -1,0 +1,33 @@
+-- `parameters::save::line_size` meets its contract: the digits, a blank, the number and a line feed.
+-- Assumes nothing.
+use Rattle.laws.proofs.Ints.{back}
+use mathlib.Core.Path.{ap, ◌∙◌}
+use native.Mathlib.Omega.{arith}
+use borrow.Author.Rules.{rules}
+use lib.IntN.{nat_abs}
+use Rattle.rules.specs.Numbers.{minus}
+use Rattle.parameters.specs.Places.{decimals, before}
+use Rattle.parameters.proofs.Examples.{}
+use Rattle.parameters.proofs.Puts.{number_size}
+use Rattle.parameters.proofs.Saving.{number_of_holds, line_length, few_decimals}
+use Rattle.parameters.proofs.numerals.digit_count.Reads as digit-count-reads
+use Rattle.parameters.proofs.numerals.number_size.Reads as number-size-reads
+use Rattle.parameters.proofs.places.decimals.Reads as decimals-reads
+use Rattle.parameters.proofs.places.stands_for.Reads as stands-for-reads
+use Rattle.value.proofs.is_below_zero.Reads as is-below-zero-reads
+use Rattle.value.proofs.size_of.Reads as size-of-reads
+use Rattle.parameters.proofs.save.line_size.Goals as goal
+
+pub number_size-size-requires : goal.number_size-size-requires
+number_size-size-requires c = (few_decimals c.stands_for.result c.decimals-places.ensures, omega (arith, c.requires.1, c.size_of.ensures ∙ ap nat_abs (back c.args.amount (search rules))))
+
+pub overflow_add-result-2 : goal.overflow_add-result-2
+overflow_add-result-2 c = omega (arith, c.requires.0, c.digit_count.ensures.1, c.number_size-size.ensures.1)
+
+pub overflow_add-result-3 : goal.overflow_add-result-3
+overflow_add-result-3 c = omega (arith, c.requires.0, c.digit_count.ensures.1, c.number_size-size.ensures.1)
+
+pub returns : goal.returns
+returns c =
+    let w = number_of_holds c.args.number c.args.amount (c.is_below_zero-negative.ensures ∙ ap minus (back c.args.amount (search rules))) (c.size_of.ensures ∙ ap nat_abs (back c.args.amount (search rules))) c.decimals-places.ensures c.stands_for.ensures in
+    (omega (arith, line_length c.args.number c.args.amount w, c.digit_count.ensures.0, c.number_size-size.ensures.0), omega (arith, c.requires.0, c.digit_count.ensures.1, c.number_size-size.ensures.1))
