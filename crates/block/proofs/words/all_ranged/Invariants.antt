@@ -1,0 +1,28 @@
+-- `block::words::all_ranged` meets its contract. The loop's invariant: the values passed are in range, so those still ahead decide.
+-- Assumes nothing.
+use mathlib.Core.Path.{◌≡◌, refl, sym, ap, ◌∙◌}
+use mathlib.Core.Bool.{true, false}
+use mathlib.Core.List.{List, [], ◌∷◌}
+use Prim.Native.Nat.{ℕ, zero, suc, ◌+◌, ◌-◌, ◌≤◌, ◌<◌}
+use native.Mathlib.Numerals.{add-one}
+use native.Mathlib.Omega.{arith}
+use lib.IntN.{ℤ, pos}
+use lib.ListN.{length, take, drop, get_or, drop_of_length-le}
+use lib.Seq.{drop-cons}
+use mir.Syntax.{w64}
+use mir.ValLaws.{to_z-of_z}
+use borrow.Author.Rules.{rules}
+use borrow.Author.Tests.{not-true, not-false}
+use Rattle.rules.specs.Numbers.{in_range}
+use Rattle.block.specs.Execution.{all_in_range}
+use Rattle.block.proofs.words.all_ranged.Given as goal
+
+-- the values from place i on, of the first `count`
+abbrev ahead : List ℤ → ℕ → ℕ → List ℤ
+ahead vs count i = take (count - i) (drop i vs)
+
+abbrev pub invariant-loop-i : goal.invariant-loop-i
+invariant-loop-i l = (l.i ≤ l.count) × (all_in_range (take l.count l.values) ≡ all_in_range (ahead l.values l.count l.i))
+
+abbrev pub decreases-loop-i : goal.decreases-loop-i
+decreases-loop-i l = l.count - l.i
