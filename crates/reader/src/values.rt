@@ -90,7 +90,7 @@ fn enclosed(inner: Nested) -> Nested
 
 // A number, or what else a value may be: that lends text and table on, and stands in a function of its
 // own, so that a number, as most values are, does not pay for it.
-#[cycle(expression_in_other_value_in_value_in)]
+#[cycle(value)]
 fn value_in(text: &[u8], table: &[i64], at: usize, levels: usize) -> Nested
     requires { at ≤ length text.now }
     ensures { result ≡ of_value table.now levels (value_t text.now at) }
@@ -102,7 +102,7 @@ fn value_in(text: &[u8], table: &[i64], at: usize, levels: usize) -> Nested
 }
 
 // `#` and a value; a function of an expression; or an expression.
-#[cycle(expression_in_other_value_in_value_in)]
+#[cycle(value)]
 fn other_value_in(text: &[u8], table: &[i64], at: usize, levels: usize) -> Nested
     requires { (at ≤ length text.now) × (opens_number (drop at text.now) ≡ false) }
     ensures { result ≡ of_value table.now levels (value_t text.now at) }
@@ -120,7 +120,7 @@ fn other_value_in(text: &[u8], table: &[i64], at: usize, levels: usize) -> Neste
 
 // An expression after its `[`, and the levels left within it. Once a value in it nests too deep, the rest
 // is passed for its form.
-#[cycle(expression_in_other_value_in_value_in)]
+#[cycle(value)]
 fn expression_in(text: &[u8], table: &[i64], at: usize, levels: usize) -> Nested
     requires { (at ≤ length text.now) × (0 < at) }
     ensures { result ≡ of_expression table.now levels (expr_t text.now at) }

@@ -1,0 +1,12 @@
+use mathlib.Core.Path.{sym, ◌∙◌}
+use Rattle.reader.proofs.Spellings.{number_by}
+use lib.ListN.{drop_of_length-le}
+use borrow.Author.Rules.{rules}
+use Rattle.reader.proofs.numbers.is_numeric.Reads as is-numeric-reads
+use Rattle.reader.proofs.numbers.opens_number.Goals as goal
+
+pub returns-then-text-at : goal.returns-then-text-at
+returns-then-text-at c = rw (drop_of_length-le c.args.text.now c.if-text-at.true)
+
+pub returns : goal.returns
+returns c = c.is_numeric.ensures ∙ sym (number_by c.args.text.now c.args.at c.if-text-at.false)

@@ -1,0 +1,14 @@
+use Rattle.reader.specs.Places.{spelt_to}
+use borrow.Author.Rules.{rules}
+use mathlib.Core.Path.{◌≡◌, refl, ◌∙◌, ap}
+use Prim.Native.Nat.{◌≤◌}
+use lib.ListN.{length}
+use Rattle.reader.specs.Passage.{onward, left}
+use Rattle.reader.proofs.passage.step_from.Reads as step-from-reads
+use Rattle.reader.proofs.passage.pass_from.Given as goal
+
+abbrev pub invariant-loop-next : goal.invariant-loop-next
+invariant-loop-next l = (onward l.text l.now ≡ onward l.text l.initial.now) × (l.now.at ≤ length l.text) × (l.now.brackets ≤ l.now.at)
+
+abbrev pub decreases-loop-next : goal.decreases-loop-next
+decreases-loop-next l = left l.text l.now
