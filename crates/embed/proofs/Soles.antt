@@ -8,7 +8,7 @@ use Rattle.embed.specs.contracts.rs274_line as rs274_line
 use Rattle.embed.specs.contracts.files.rs274_parameters_read as rs274_parameters_read
 use Rattle.embed.specs.contracts.files.rs274_parameters_write as rs274_parameters_write
 
-pub rs274_line_sole : Sole rs274_line.ended (λ M. rs274_line.clauses)
+pub rs274_line_sole : Sole rs274_line.ended (λ M 𝓤. rs274_line.clauses)
 rs274_line_sole = record {
   says = _;
   is = λ M 𝓤 𝓛 mem run κs a ghost r e. refl;
@@ -17,7 +17,7 @@ rs274_line_sole = record {
       (λ i. (e i).answer, λ i. (tt, (tt, ((e i).rec, ((e i).table, ((e i).out, tt))))));
 }
 
-pub rs274_parameters_read_sole : Sole rs274_parameters_read.ended (λ M. rs274_parameters_read.clauses)
+pub rs274_parameters_read_sole : Sole rs274_parameters_read.ended (λ M 𝓤. rs274_parameters_read.clauses)
 rs274_parameters_read_sole = record {
   says = _;
   is = λ M 𝓤 𝓛 mem run κs a ghost r e. refl;
@@ -26,7 +26,7 @@ rs274_parameters_read_sole = record {
       (λ i. (e i).number, λ i. (tt, ((e i).rec, ((e i).table, tt))));
 }
 
-pub rs274_parameters_write_sole : Sole rs274_parameters_write.ended (λ M. rs274_parameters_write.clauses)
+pub rs274_parameters_write_sole : Sole rs274_parameters_write.ended (λ M 𝓤. rs274_parameters_write.clauses)
 rs274_parameters_write_sole = record {
   says = _;
   is = λ M 𝓤 𝓛 mem run κs a ghost r e. refl;

@@ -29,7 +29,7 @@ mend_sole = record {
       (λ i. (e i).tally, λ i. (tt, ((e i).out, ((e i).list, tt))));
 }
 
-pub rs274_mend_sole : Sole rs274_mend.ended (λ M. rs274_mend.clauses)
+pub rs274_mend_sole : Sole rs274_mend.ended (λ M 𝓤. rs274_mend.clauses)
 rs274_mend_sole = record {
   says = _;
   is = λ M 𝓤 𝓛 m n κs a g r e. refl;
