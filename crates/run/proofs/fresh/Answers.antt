@@ -1,0 +1,7 @@
+use mathlib.Core.Bool.{false}
+use borrow.Author.Rules.{rules}
+use Rattle.record.proofs.fresh.Reads as fresh-reads
+use Rattle.run.proofs.fresh.Goals as goal
+
+pub returns : goal.returns
+returns c = λ i. record { rec = c.fresh.ensures i; held = 0; ended = false }
