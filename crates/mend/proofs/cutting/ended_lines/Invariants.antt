@@ -1,0 +1,15 @@
+-- `mend::cutting::ended_lines` meets its contract: the last line feed before i is the one asked for.
+-- Assumes nothing.
+use Rattle.mend.proofs.Joining.{ended_here, ended_next, ended_none}
+use native.Mathlib.Omega.{arith}
+use Rattle.mend.specs.Joining.{ended_to, ended_lines}
+use mathlib.Core.Path.{◌≡◌, refl, ◌∙◌}
+use lib.ListN.{length}
+use Prim.Native.Nat.{◌≤◌}
+use Rattle.mend.proofs.cutting.ended_lines.Given as goal
+
+abbrev pub invariant-loop-i : goal.invariant-loop-i
+invariant-loop-i l = (l.i ≤ length l.text) × (ended_to l.i l.text ≡ ended_lines l.text)
+
+abbrev pub decreases-loop-i : goal.decreases-loop-i
+decreases-loop-i l = l.i

@@ -1,0 +1,16 @@
+-- `mend::repairs::flatten` meets its contract: what came out before i and what is left to do behind it are what is to come out.
+-- Assumes nothing.
+use native.Mathlib.Omega.{arith}
+use mathlib.Core.Path.{◌≡◌, refl, sym, ◌∙◌}
+use mathlib.Core.List.{◌++◌}
+use Prim.Native.Nat.{◌-◌, ◌≤◌}
+use lib.ListN.{length, take, drop, length-set}
+use Rattle.mend.specs.Repairs.{flattened}
+use Rattle.mend.proofs.Passing.{flat_next, flat_end}
+use Rattle.mend.proofs.repairs.flatten.Given as goal
+
+abbrev pub invariant-loop-i : goal.invariant-loop-i
+invariant-loop-i l = (l.d ≤ l.i) × (l.i ≤ length l.line) × (length l.line ≡ length l.initial.line) × (take l.i l.line ++ flattened l.d (drop l.i l.line) ≡ flattened 0 l.initial.line)
+
+abbrev pub decreases-loop-i : goal.decreases-loop-i
+decreases-loop-i l = length l.line - l.i
