@@ -1,0 +1,21 @@
+-- `embed::put_modes` meets its contract.
+-- Assumes nothing.
+use native.Mathlib.Omega.{arith}
+use lib.ListN.{length-set}
+use mir.Facts.{to_z_pos}
+use mir.Syntax.{w64}
+use borrow.Author.Rules.{rules}
+use Rattle.embed.proofs.put_modes.Goals as goal
+
+pub bounds-rec-37 : goal.bounds-rec-37
+bounds-rec-37 c = simp length-set (omega arith)
+
+pub returns : goal.returns
+returns c =
+        simp (
+      to_z_pos w64 {n = c.args.motion} (omega arith),
+      to_z_pos w64 {n = c.args.plane} (omega arith),
+      to_z_pos w64 {n = c.args.distance} (omega arith),
+      to_z_pos w64 {n = c.args.units} (omega arith),
+      to_z_pos w64 {n = c.args.system} (omega arith),
+    )
