@@ -217,7 +217,7 @@ module _ (tree : List ℕ → Form Line) (text : List ℕ) (es : List Entry) (k 
   -- where the entries are the text's index, the one brought up to date equals one built afresh
   pub bring_is : bring tree text es k new ≡ replace_afresh tree text es k new
   unfolding bring replace_afresh
-  bring_is = replaced_alike _ _ text es k new (λ old e u. brought_afresh k old e u)
+  bring_is = replaced_alike (λ x' x''. brought tree text es k x' new) (λ x'. built tree) text es k new (λ old e u. brought_afresh k old e u)
 
   pub bring_same : bring tree text es k new ≡ replace tree text es k new
   bring_same = bring_is ∙ sym (afresh tree text es k new i)

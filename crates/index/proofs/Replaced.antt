@@ -17,7 +17,7 @@ use Rattle.rules.specs.Frames.{without_return}
 use Rattle.texts.specs.Ends.{Piece, piece, pieces, joined}
 use Rattle.texts.proofs.Cutting.{unfed, Ended, fed, returned, Cut, last, next, cut_again, pieces_cut, joined_is}
 use Rattle.texts.proofs.Cutting.{none as no_lines}
-use Rattle.index.specs.Index.{borne, bears, size, first_from, place_of, Entry, RisingFrom, find, IndexOf, put, settled, text_most, index_most, Indexed, indexed, line_at, start_at, with_line, line_of, text_with, unfit, limited, swapped, replace_by, replace, replace_afresh}
+use Rattle.index.specs.Index.{borne, built, bears, size, first_from, place_of, Entry, RisingFrom, find, IndexOf, put, settled, text_most, index_most, Indexed, indexed, line_at, start_at, with_line, line_of, text_with, unfit, limited, swapped, replace_by, replace, replace_afresh}
 use Rattle.index.proofs.Entries.{put_rises, put_same, put_other}
 use Rattle.index.proofs.Built.{built_is, only_index}
 
@@ -150,7 +150,7 @@ replaced_alike f g text es k new h = ap (cond (ltb text_most (length text)) (ind
 -- "the index brought up to date equals one built afresh"
 pub afresh : (tree : List ℕ → Form Line) (text : List ℕ) (es : List Entry) (k : ℕ) (new : List ℕ) → IndexOf tree text es → replace tree text es k new ≡ replace_afresh tree text es k new
 unfolding replace replace_afresh
-afresh tree text es k new i = replaced_alike _ _ text es k new (λ old e u. only_index tree (updated_is tree text es k old new i e u) (built_is tree (text_with k new text)))
+afresh tree text es k new i = replaced_alike (λ x' x''. settled tree x'' (borne tree x') (settled tree x'' (borne tree new) es)) (λ x'. built tree) text es k new (λ old e u. only_index tree (updated_is tree text es k old new i e u) (built_is tree (text_with k new text)))
 
 -- ---- "30 .., 32 .., 33 .., in the order 30, 32, 33, 31; none alters text or index"
 module _ (tree : List ℕ → Form Line) (text : List ℕ) (es : List Entry) (k : ℕ) (new : List ℕ) where

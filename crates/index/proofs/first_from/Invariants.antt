@@ -1,0 +1,14 @@
+-- `index::first_from` meets its contract: the search goes on between low and high.
+-- Assumes nothing.
+use mathlib.Core.Path.{◌≡◌, sym, ◌∙◌}
+use Prim.Native.Nat.{◌-◌, ◌≤◌}
+use native.Mathlib.Omega.{arith}
+use Rattle.index.specs.Held.{halved, searched}
+use Rattle.index.proofs.Halving.{halves_all, halve_up, halve_down, halves_none}
+use Rattle.index.proofs.first_from.Given as goal
+
+abbrev pub invariant-loop-low : goal.invariant-loop-low
+invariant-loop-low l = (l.low ≤ l.high) × (l.high ≤ l.count) × (halved (l.high - l.low) l.index l.n l.low l.high ≡ searched l.index l.count l.n)
+
+abbrev pub decreases-loop-low : goal.decreases-loop-low
+decreases-loop-low l = l.high - l.low

@@ -1,0 +1,7 @@
+-- `index::replacing::is_number` meets its contract.
+-- Assumes nothing.
+use borrow.Author.Rules.{rules}
+use Rattle.index.proofs.replacing.is_number.Goals as goal
+
+pub returns-in-N : goal.returns-in-N
+returns-in-N c = rw c.in-N.is
