@@ -18,20 +18,20 @@ LIB = '''// A line of a comment, with pub fn in_a_line() in it. /* and this begi
 pub fn in_a_block() { /* and a block in it */ }
 */
 mod gauge;
-ghost use mathlib.Core.Path.{_≡_};
+ghost use Rattle.std.specs.Prelude.{◌≡◌, ◌<◌};
 const OPEN: &[u8] = b"pub fn in_a_text() {";
 
 pub fn twice(n: u8) -> u8
-    ensures { λ r. ⌜ r ≡ record { both = n; } ⌝ }
+    ensures { result ≡ record { both = n; } }
 {
     let open = b'{';
     helper(n)
 }
 
 pub(crate) fn helper(n: u8) -> u8
-    requires { ⌜ n < 9 ⌝ }
-    ensures { λ r. ⌜ r ≡ n ⌝ }
-    ensures { λ r. ⌜ r < 9 ⌝ }
+    requires { n < 9 }
+    ensures same { result ≡ n }
+    ensures low { result < 9 }
 {
     n
 }
@@ -40,44 +40,44 @@ fn own(n: u8) -> u8 { n }
 
 impl Dial {
     pub fn turned(self) -> Dial
-        ensures { λ r. ⌜ r ≡ self ⌝ }
+        ensures { result ≡ self }
     {
         self
     }
 }
 
-#[no_mangle]
+#[unsafe(no_mangle)]
 pub extern "C" fn shown(line: &[u8]) -> u32
-    ensures { λ r. ⌜ r ≡ 0 ⌝ }
+    ensures { result ≡ 0 }
 {
     0
 }
 '''
 GAUGE = '''pub fn read(n: u8) -> u8
-    ensures { λ r. ⌜ r ≡ n ⌝ }
+    ensures { result ≡ n }
 {
     n
 }
 '''
 SOLES = '''-- Each public function's contract allows one result.
 use mathlib.Core.Path.{refl}
-use Rattle·laws.proofs.Sole.{Sole, alike}
-use Rattle·made·proofs.proofs.twice as twice
-use Rattle·made·proofs.proofs.Dial.turned as turned
-use Rattle·made·proofs.proofs.shown as shown
-use Rattle·made·proofs.proofs.gauge.read as readGauge
+use Rattle.laws.proofs.Sole.{Sole, alike}
+use Rattle.made.specs.contracts.twice as twice
+use Rattle.made.specs.contracts.Dial.turned as turned
+use Rattle.made.specs.contracts.shown as shown
+use Rattle.made.specs.contracts.gauge.read as read_gauge
 
-pub twice-sole : Sole twice.ended (λ M. twice.clauses)
-twice-sole = record { says = _ }
+pub twice_sole : Sole twice.ended (λ M 𝓤. twice.clauses)
+twice_sole = record { says = _ }
 
-pub turned-sole : Sole turned.ended (λ M. turned.clauses)
-turned-sole = record { says = _ }
+pub turned_sole : Sole turned.ended (λ M 𝓤. turned.clauses)
+turned_sole = record { says = _ }
 
-pub shown-sole : Sole shown.ended (λ M. shown.clauses)
-shown-sole = record { says = _ }
+pub shown_sole : Sole shown.ended (λ M 𝓤. shown.clauses)
+shown_sole = record { says = _ }
 
-pub read-sole : Sole readGauge.ended (λ M. readGauge.clauses)
-read-sole = record { says = _ }
+pub read_sole : Sole read_gauge.ended (λ M 𝓤. read_gauge.clauses)
+read_sole = record { says = _ }
 '''
 RIGHT = {
     'crates/made/src/lib.rt': LIB,
@@ -87,7 +87,7 @@ RIGHT = {
     'docs/EXCEPTIONS.md': '# Exceptions\n\nThere is none.\n',
 }
 SOURCE, INNER, ROOT_FILE, PROOFS, EXCEPTIONS = RIGHT
-SAYS = '    ensures { λ r. ⌜ r ≡ n ⌝ }\n'
+SAYS = '    ensures { result ≡ n }\n'
 LACKS = 'neither a line'
 
 
@@ -115,56 +115,69 @@ CASES = [
     ('a module inside the file', 'made::inner::more: ' + LACKS,
      [added(SOURCE, 'mod inner {\n' + body('pub fn more(n: u8) -> u8') + '}\n')]),
     ('a function inside a function', 'made::own2::more: ' + LACKS,
-     [added(SOURCE, 'fn own2(n: u8) -> u8 {\n' + body('#[no_mangle] extern fn more(n: u8) -> u8') + '    n\n}\n')]),
+     [added(SOURCE, 'fn own2(n: u8) -> u8 {\n' + body('#[unsafe(no_mangle)] extern fn more(n: u8) -> u8') + '    n\n}\n')]),
     ('a method', 'made::Dial::more: ' + LACKS, [added(SOURCE, 'impl Dial {\n' + body('pub fn more(self) -> u8') + '}\n')]),
     ('extern "C" and not pub', 'made::more: ' + LACKS, [added(SOURCE, body('extern "C" fn more(n: u8) -> u8'))]),
     ('extern alone', 'made::more: ' + LACKS, [added(SOURCE, body('pub extern fn more(n: u8) -> u8'))]),
     ('extern alone and not pub', 'made::more: ' + LACKS, [added(SOURCE, body('extern fn more(n: u8) -> u8'))]),
-    ('no_mangle and nothing else', 'made::more: ' + LACKS, [added(SOURCE, body('#[no_mangle]\nfn more(n: u8) -> u8'))]),
+    ('no_mangle and nothing else', 'made::more: ' + LACKS,
+     [added(SOURCE, body('#[unsafe(no_mangle)]\nfn more(n: u8) -> u8'))]),
+    ('no_mangle as it was spelled', 'made::more: ' + LACKS, [added(SOURCE, body('#[no_mangle]\nfn more(n: u8) -> u8'))]),
     ('no_mangle and of the crate', 'made::more: ' + LACKS,
-     [added(SOURCE, body('#[no_mangle]\npub(crate) fn more(n: u8) -> u8'))]),
+     [added(SOURCE, body('#[unsafe(no_mangle)]\npub(crate) fn more(n: u8) -> u8'))]),
+    ('another name for C', 'made::more: ' + LACKS,
+     [added(SOURCE, body('#[unsafe(export_name = "less")]\nfn more(n: u8) -> u8'))]),
     ('a requires', 'made::gauge::read: a public function must answer',
-     [(INNER, SAYS, '    requires { ⌜ n < 9 ⌝ }\n' + SAYS)]),
+     [(INNER, SAYS, '    requires { n < 9 }\n' + SAYS)]),
     ('a requires behind the ensures', 'made::gauge::read: a public function must answer',
-     [(INNER, SAYS, SAYS + '    requires { ⌜ n < 9 ⌝ }\n')]),
+     [(INNER, SAYS, SAYS + '    requires { n < 9 }\n')]),
+    ('a requires with a name', 'made::gauge::read: a public function must answer',
+     [(INNER, SAYS, '    requires low { n < 9 }\n' + SAYS)]),
+    ('a requires with a star', 'made::gauge::read: a public function must answer',
+     [(INNER, SAYS, '    requires* { ⌜ n < 9 ⌝ }\n' + SAYS)]),
     ('a requires of an exported function', 'made::shown: a public function must answer',
-     [(SOURCE, '-> u32\n', '-> u32\n    requires { ⌜ true ⌝ }\n'), (SOURCE, 'pub extern "C"', 'extern')]),
-    ('a requires in a comment', '', [(INNER, SAYS, '    // requires { ⌜ n < 9 ⌝ }\n' + SAYS)]),
+     [(SOURCE, '-> u32\n', '-> u32\n    requires { true }\n'), (SOURCE, 'pub extern "C"', 'extern')]),
+    ('a requires in a comment', '', [(INNER, SAYS, '    // requires { n < 9 }\n' + SAYS)]),
     ('no ensures', 'and this one has 0', [(INNER, SAYS, '')]),
     ('an ensures in a comment only', 'and this one has 0', [(INNER, SAYS, '    //' + SAYS)]),
     ('two ensures', 'and this one has 2', [(INNER, SAYS, SAYS + SAYS)]),
-    ('a line of Soles in a comment', 'made::twice: ' + LACKS, [(PROOFS, 'pub twice-sole', '-- pub twice-sole')]),
-    ('a line of Soles behind other words', 'made::twice: ' + LACKS, [(PROOFS, 'pub twice-sole', 'x -- pub twice-sole')]),
+    ('an ensures with a name', '', [(INNER, SAYS, '    ensures same { result ≡ n }\n')]),
+    ('two ensures with names', 'and this one has 2',
+     [(INNER, SAYS, '    ensures same { result ≡ n }\n    ensures low { result < 9 }\n')]),
+    ('an ensures with a star beside another', 'and this one has 2', [(INNER, SAYS, SAYS + '    ensures* kept { emp }\n')]),
+    ('a line of Soles in a comment', 'made::twice: ' + LACKS, [(PROOFS, 'pub twice_sole', '-- pub twice_sole')]),
+    ('a line of Soles behind other words', 'made::twice: ' + LACKS, [(PROOFS, 'pub twice_sole', 'x -- pub twice_sole')]),
     ('a line of Soles in a block comment', 'made::shown: ' + LACKS,
-     [(PROOFS, 'pub shown-sole', '{- {- -}\npub shown-sole'), (PROOFS, '\npub read-sole', '-}\npub read-sole')]),
+     [(PROOFS, 'pub shown_sole', '{- {- -}\npub shown_sole'), (PROOFS, '\npub read_sole', '-}\npub read_sole')]),
     ('an import in a comment', 'made::twice: ' + LACKS,
-     [(PROOFS, 'use Rattle·made·proofs.proofs.twice', '-- use Rattle·made·proofs.proofs.twice')]),
-    ('a line about other clauses', 'made::twice: ' + LACKS, [(PROOFS, 'λ M. twice.clauses', 'λ M. shown.clauses')]),
-    ('a line about another crate', 'made::twice: ' + LACKS, [(PROOFS, 'made·proofs.proofs.twice', 'other·proofs.proofs.twice')]),
+     [(PROOFS, 'use Rattle.made.specs.contracts.twice', '-- use Rattle.made.specs.contracts.twice')]),
+    ('a line about no universe', 'made::twice: ' + LACKS, [(PROOFS, 'λ M 𝓤. twice.clauses', 'λ M. twice.clauses')]),
+    ('a line about other clauses', 'made::twice: ' + LACKS, [(PROOFS, 'λ M 𝓤. twice.clauses', 'λ M 𝓤. shown.clauses')]),
+    ('a line about another crate', 'made::twice: ' + LACKS, [(PROOFS, 'made.specs.contracts.twice', 'other.specs.contracts.twice')]),
     ('the same name in another module', 'made::dial::read: ' + LACKS,
      [added('crates/made/src/dial.rt', GAUGE)]),
     ('the same name in a module below', 'made::gauge::dial::read: ' + LACKS,
      [added('crates/made/src/gauge/dial.rt', GAUGE)]),
     ('the same name in both, and a line for each', '',
      [added('crates/made/src/dial.rt', GAUGE),
-      (PROOFS, '\npub twice', 'use Rattle·made·proofs.proofs.dial.read as readDial\n\npub twice'),
-      added(PROOFS, '\npub dial-sole : Sole readDial.ended (λ M. readDial.clauses)\n')]),
+      (PROOFS, '\npub twice', 'use Rattle.made.specs.contracts.dial.read as read_dial\n\npub twice'),
+      added(PROOFS, '\npub dial_sole : Sole read_dial.ended (λ M 𝓤. read_dial.clauses)\n')]),
     ('one name for two functions', 'gives one name to two',
      [added('crates/made/src/dial.rt', GAUGE),
-      (PROOFS, '\npub twice', 'use Rattle·made·proofs.proofs.dial.read as readGauge\n\npub twice')]),
+      (PROOFS, '\npub twice', 'use Rattle.made.specs.contracts.dial.read as read_gauge\n\npub twice')]),
     ('Soles that nothing checks', 'does not declare Soles', [(ROOT_FILE, 'pub mod Soles', '-- pub mod Soles')]),
-    ('another law', 'is not that of crate laws', [(PROOFS, 'Rattle·laws.proofs.Sole', 'Rattle·made·proofs.proofs.Sole')]),
+    ('another law', 'is not that of crate laws', [(PROOFS, 'Rattle.laws.proofs.Sole', 'Rattle.made.proofs.Sole')]),
     ('a law of its own', 'is not that of crate laws', [added(PROOFS, '\nSole : Type 0\nSole = Unit\n')]),
-    ('an exception', '', [(PROOFS, 'pub twice-sole', '-- pub twice-sole'),
+    ('an exception', '', [(PROOFS, 'pub twice_sole', '-- pub twice_sole'),
                          added(EXCEPTIONS, '- `made::twice`: because it is made up\n')]),
     ('an exception for another path', 'made::gauge::read: ' + LACKS,
-     [(PROOFS, 'pub read-sole', '-- pub read-sole'), added(EXCEPTIONS, '- `made::read`: because\n')]),
+     [(PROOFS, 'pub read_sole', '-- pub read_sole'), added(EXCEPTIONS, '- `made::read`: because\n')]),
     ('an exception without a reason', 'made::twice: ' + LACKS,
-     [(PROOFS, 'pub twice-sole', '-- pub twice-sole'), added(EXCEPTIONS, '- `made::twice`:\n')]),
+     [(PROOFS, 'pub twice_sole', '-- pub twice_sole'), added(EXCEPTIONS, '- `made::twice`:\n')]),
     ('an exception that nothing needs', 'names a function that is not there',
      [added(EXCEPTIONS, '- `made::in_a_line`: because a comment names it\n')]),
     ('no public function at all', 'soles: 0 public functions',
-     [(SOURCE, LIB, ''), (INNER, GAUGE, ''), (PROOFS, SOLES, 'use Rattle·laws.proofs.Sole.{Sole, alike}\n')]),
+     [(SOURCE, LIB, ''), (INNER, GAUGE, ''), (PROOFS, SOLES, 'use Rattle.laws.proofs.Sole.{Sole, alike}\n')]),
 ]
 
 

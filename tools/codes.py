@@ -79,11 +79,11 @@ def table(name, length):
 
 def served():
     """Every served code by its name, with its group, in rising order."""
-    tenths = listed('gGroups')
+    tenths = listed('g_groups')
     if {code: group for code, group in enumerate(table('g_table.rt', 1000)) if group != NOT_SERVED} != tenths:
         sys.exit("g_table.rt is not what the rules' list of G groups says")
     codes = {f'G{code // 10}' + (f'.{code % 10}' if code % 10 else ''): tenths[code] for code in sorted(tenths)}
-    whole = listed('mGroups')
+    whole = listed('m_groups')
     codes.update({f'M{code}': whole[code] for code in sorted(whole)})
     return codes
 

@@ -4,11 +4,11 @@
     tools/soles.py [FOLDER]     of the repository in FOLDER, or of this one
 
 A function is public where it is `pub` (`pub(crate)` is not), and where it is exported: `extern`, or marked
-`#[no_mangle]`. Of each under crates/*/src:
-- it has no `requires` and one `ensures`;
-- its crate's proofs/Soles.antt, which proofs/Lib.antt declares, imports it by its whole path,
-  `use Rattle·CRATE·proofs.proofs.MODULE.NAME as ALIAS`, and has the line
-  `pub ..-sole : Sole ALIAS.ended (λ M. ALIAS.clauses)`;
+`#[unsafe(no_mangle)]`. Of each under crates/*/src:
+- it has no `requires` and one `ensures`, named and starred ones among them;
+- its crate's proofs/Soles.antt, which proofs/Lib.antt declares, imports its contract by its whole path,
+  `use Rattle.CRATE.specs.contracts.MODULE.NAME as ALIAS`, and has the line
+  `pub .._sole : Sole ALIAS.ended (λ M 𝓤. ALIAS.clauses)`;
   or docs/EXCEPTIONS.md has an entry with a reason, a line that begins "- `crate::module::function`: ".
 What stands in a comment counts nowhere.
 """
@@ -18,9 +18,9 @@ import sys
 
 RATTLE = re.compile(
     r'//[^\n]*|b?"(?:\\.|[^"\\])*"|b\'(?:\\.|[^\'\\])\'|/\*|[^\W\d]\w*|\S', re.S)
-IMPORT = re.compile(r'^use Rattle·(\w+)·proofs\.proofs\.(\S+) as (\S+)$', re.M)
-LAW = re.compile(r'^use Rattle·laws\.proofs\.Sole\.\{(?:[^}]*, )?Sole[,}]', re.M)
-SOLE = re.compile(r'^pub \S+-sole : Sole (\S+)\.ended \(λ M\. \1\.clauses\)$', re.M)
+IMPORT = re.compile(r'^use Rattle\.(\w+)\.specs\.contracts\.(\S+) as (\S+)$', re.M)
+LAW = re.compile(r'^use Rattle\.laws\.proofs\.Sole\.\{(?:[^}]*, )?Sole[,}]', re.M)
+SOLE = re.compile(r'^pub \S+_sole : Sole (\S+)\.ended \(λ M 𝓤\. \1\.clauses\)$', re.M)
 EXCEPTION = re.compile(r'^- `(\w+(?:::\w+)+)`: \S', re.M)
 OPENING, CLOSING = {'(', '[', '{'}, {')', ']', '}'}
 
@@ -77,9 +77,11 @@ def declared(words, at, path):
     name, clauses = words[at], {'requires': 0, 'ensures': 0, 'ghost': 0}
     at += 1
     while words[at] not in ('{', ';', ''):
-        if words[at] in clauses and words[at + 1] == '{':
+        if words[at] in clauses:
             clauses[words[at]] += 1
-            at += 1
+            # Its name or its star, where it has one, stands before the bracket.
+            while words[at] not in ('{', ''):
+                at += 1
         at = past(words, at) if words[at] in OPENING else at + 1
     return Function(path + (name,), False, clauses['requires'], clauses['ensures']), at
 
