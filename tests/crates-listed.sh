@@ -5,9 +5,9 @@ cd "$(dirname "$0")/.." || exit 2
 status=0
 for folder in crates/*/; do
     name=$(basename "$folder")
-    grep -q "^$name *:" crates.txt || { echo "crates/$name is not listed in crates.txt"; status=1; }
+    grep -qE "^$name( staticlib)? *:" crates.txt || { echo "crates/$name is not listed in crates.txt"; status=1; }
 done
-for name in $(sed -n 's/^\([a-z0-9_]*\) *:.*/\1/p' crates.txt); do
+for name in $(sed -nE 's/^([a-z0-9_]*)( staticlib)? *:.*/\1/p' crates.txt); do
     [ -d "crates/$name" ] || { echo "crates.txt lists $name, and there is no such folder"; status=1; }
 done
 exit $status

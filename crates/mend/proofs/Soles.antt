@@ -6,7 +6,6 @@ use Rattle.texts.proofs.Rightness.{model, model_tells}
 use Rattle.mend.specs.contracts.cutting.ended_lines as ended_lines
 use Rattle.mend.specs.contracts.line.mend_line as mend_line
 use Rattle.mend.specs.contracts.whole.mend as mend
-use Rattle.mend.specs.contracts.whole.rs274_mend as rs274_mend
 
 pub ended_lines_sole : Sole ended_lines.ended (λ M 𝓤. ended_lines.clauses)
 ended_lines_sole = record { says = _; is = λ M 𝓤 𝓛 m n κs a g r e. refl; one = λ κs a r r' ws ws' p q. (alike p q, refl) }
@@ -22,15 +21,6 @@ mend_line_sole = record {
 
 pub mend_sole : Sole mend.ended (λ M 𝓤. mend.clauses)
 mend_sole = record {
-  says = _;
-  is = λ M 𝓤 𝓛 m n κs a g r e. refl;
-  one = λ κs a r r' ws ws' p q.
-      let e = alike (p model model_tells) (q model model_tells) in
-      (λ i. (e i).tally, λ i. (tt, ((e i).out, ((e i).list, tt))));
-}
-
-pub rs274_mend_sole : Sole rs274_mend.ended (λ M 𝓤. rs274_mend.clauses)
-rs274_mend_sole = record {
   says = _;
   is = λ M 𝓤 𝓛 m n κs a g r e. refl;
   one = λ κs a r r' ws ws' p q.

@@ -8,4 +8,4 @@ mod whole;
 
 pub use cutting::ended_lines;
 pub use line::{Mended, mend_line};
-pub use whole::{Tally, mend, rs274_mend};
+pub use whole::{Tally, mend};

@@ -7,7 +7,7 @@ use super::cutting::line_at;
 use super::line::{Mended, mend_line};
 use super::repairs::copy;
 
-// What became of a text.
+// What became of a text, laid out as C has it too: crate mend_c hands it on.
 #[repr(C)]
 #[derive(Clone, Copy)]
 pub struct Tally {
@@ -199,12 +199,4 @@ pub fn mend(text: &[u8], out: &mut [u8], list: &mut [usize]) -> Tally
         lines: 0,
         listed: 0,
     }
-}
-
-// The same for C: include/rs274_mend.h declares it.
-#[unsafe(no_mangle)]
-pub extern "C" fn rs274_mend(text: &[u8], out: &mut [u8], list: &mut [usize]) -> Tally
-    ensures { MendsText text.now out.old list.old (leaves_text result out.new list.new) }
-{
-    mend(text, out, list)
 }

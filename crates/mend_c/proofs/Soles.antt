@@ -1,0 +1,15 @@
+-- The exported function's contract allows one result.
+-- Assumes nothing.
+use mathlib.Core.Path.{refl}
+use Rattle.laws.proofs.Sole.{Sole, alike}
+use Rattle.texts.proofs.Rightness.{model, model_tells}
+use Rattle.mend_c.specs.contracts.rs274_mend as rs274_mend
+
+pub rs274_mend_sole : Sole rs274_mend.ended (λ M 𝓤. rs274_mend.clauses)
+rs274_mend_sole = record {
+  says = _;
+  is = λ M 𝓤 𝓛 m n κs a g r e. refl;
+  one = λ κs a r r' ws ws' p q.
+      let e = alike (p model model_tells) (q model model_tells) in
+      (λ i. (e i).tally, λ i. (tt, ((e i).out, ((e i).list, tt))));
+}
