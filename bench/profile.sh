@@ -1,19 +1,16 @@
 #!/bin/sh
 # profile.sh [MIX [PROGRAM]]: where rs274 spends its instructions on 10,000 lines of a mix, cam unless told otherwise.
 # The 25 functions with the most of their own, then who calls whom how often a line. Needs valgrind.
-# rt links all crates into one module: a function that was put into its caller is counted there, most of them in
-# rs274::line. The kit's C library has no names; what rs274 takes from it is memcpy, memset, read and write, so the two
-# large entries without a name are memcpy and memset.
+# rt makes one module of all crates: a function that was put into its caller is counted there. Where the machine's C
+# library has no names, an entry says where in it the function stands; what rs274 takes of it is memcpy, memset, read and write.
 set -eu
 cd "$(dirname "$0")/.."
 mix=${1:-cam} program=${2:-target/bin/rs274}
 work=target/bench
 mkdir -p $work
+[ $# -ge 2 ] || sh tools/build.sh rs274
 python3 -B bench/mixes.py "$mix" 10000 >$work/profile.ngc
-home=${RATTLE_HOME:-$(dirname "$(dirname "$(readlink -f "$(command -v rt)")")")}
-tools=$home/on/$(uname -m)/toolchain
-valgrind --tool=callgrind --compress-strings=no --callgrind-out-file=$work/profile.out \
-    "$tools/lib/ld-linux-x86-64.so.2" --library-path "$tools/lib" "$program" \
+valgrind --tool=callgrind --compress-strings=no --callgrind-out-file=$work/profile.out "$program" \
     <$work/profile.ngc 2>$work/profile.log >/dev/null
 echo "instructions, all 10,000 lines"
 callgrind_annotate --threshold=100 $work/profile.out | grep -E '^ *[0-9,]+ \(' |

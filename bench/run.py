@@ -12,7 +12,6 @@ built, and the outputs are compared, before anything is measured.
 --program FILE    measures this build of rs274, not target/bin/rs274: for trials that are not proved yet"""
 import argparse
 import os
-import platform
 import re
 import shutil
 import subprocess
@@ -35,13 +34,6 @@ INSTRUCTIONS = '| Instructions a line |'
 
 # ---------------------------------------------------------------- Programs
 
-def loaded(program):
-    """The command that tests/run.sh comes to, without the shell's own time."""
-    home = os.environ.get('RATTLE_HOME') or Path(shutil.which('rt')).resolve().parent.parent
-    tools = Path(home) / 'on' / platform.machine() / 'toolchain'
-    return [str(tools / 'lib/ld-linux-x86-64.so.2'), '--library-path', str(tools / 'lib'), str(program)]
-
-
 def older(made, *sources):
     """Whether one of the sources, or a file within it, is newer than what was made of them."""
     files = [file for source in sources for file in (source.rglob('*') if source.is_dir() else [source])]
@@ -51,15 +43,15 @@ def older(made, *sources):
 def build(own):
     """rs274, unless one's own build is measured; the reader, compared with the second program; the worst lines."""
     program, compared_at = TOP / 'target/bin/rs274', WORK / 'compared'
-    if not own and older(program, TOP / 'crates.txt', TOP / 'crates'):
-        subprocess.run(['rt', 'check', 'rs274'], check=True, stdout=sys.stderr)
+    if not own:
+        subprocess.run(['sh', 'tools/build.sh', 'rs274'], check=True, stdout=sys.stderr)
     if older(compared_at, TOP / 'bench/reader.rs', TOP / 'bench/mixes.py', TOP / 'tests/second'):
         subprocess.run(['sh', 'bench/compare.sh'], check=True, stdout=sys.stderr)
         compared_at.touch()
     if not own:
         link = ['sh', 'tests/link.sh', 'embed', 'bench/worst.c', 'target/bench/worst']
         subprocess.run(link, check=True, stdout=sys.stderr)
-    return {'rs274': loaded(own or program), 'reader': [str(WORK / 'reader')]}
+    return {'rs274': [str(own or program)], 'reader': [str(WORK / 'reader')]}
 
 
 def linuxcnc(install):
@@ -219,8 +211,6 @@ def options():
 
 def main():
     asked = options()
-    if platform.machine() != 'x86_64':
-        sys.exit('run: rs274 would run under an emulator here, and its time would say nothing')
     os.chdir(TOP)
     WORK.mkdir(parents=True, exist_ok=True)
     programs = build(asked.program)

@@ -1,7 +1,7 @@
 /*
  * Where to restart: finds an N number in a program text, and says which line that is.
  *
- *     rt staticlib lookup
+ *     tools/build.sh lookup
  *     gcc -Iinclude examples/restart.c target/staticlib/liblookup.a -o target/restart
  *     target/restart 400 <program.ngc
  */

@@ -6,7 +6,7 @@
  * share no space may run at the same time, and it allocates nothing. Of the C library it needs no more than any
  * compiled code may: memcpy, memmove, memset and memcmp.
  *
- *     rt staticlib embed                                 (proves it, and writes target/staticlib/libembed.a)
+ *     tools/build.sh embed                               (proves it, and writes target/staticlib/libembed.a)
  *     gcc -Iinclude x.c target/staticlib/libembed.a      (g++ likewise; examples/session.c is an x.c)
  *
  * The library holds objects for x86-64 Linux, and links into nothing else.

@@ -5,7 +5,7 @@
  * line are. It keeps no state, so calls that share no space may run at the same time, and it allocates nothing. Of
  * the C library it needs no more than any compiled code may: memcpy, memmove, memset and memcmp.
  *
- *     rt staticlib lookup                                (proves it, and writes target/staticlib/liblookup.a)
+ *     tools/build.sh lookup                              (proves it, and writes target/staticlib/liblookup.a)
  *     gcc -Iinclude x.c target/staticlib/liblookup.a     (g++ likewise; tests/index/index.c is an x.c)
  *
  * The library holds objects for x86-64 Linux, and links into nothing else. It may stand beside libembed.a.

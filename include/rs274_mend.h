@@ -5,7 +5,7 @@
  * no state, so any number of calls may run at the same time, and it allocates nothing. Of the C library it needs no
  * more than any compiled code may: memcpy, memmove, memset and memcmp.
  *
- *     rt staticlib mend                                  (proves it, and writes target/staticlib/libmend.a)
+ *     tools/build.sh mend                                (proves it, and writes target/staticlib/libmend.a)
  *     gcc -Iinclude x.c target/staticlib/libmend.a       (g++ likewise; tests/mend/mend.c is an x.c)
  *
  * The library holds objects for x86-64 Linux, and links into nothing else. It may stand beside libembed.a and libpanel.a.

@@ -5,7 +5,7 @@
  * number of calls may run at the same time, and it allocates nothing. Of the C library it needs no more than any
  * compiled code may: memcpy, memmove, memset and memcmp.
  *
- *     rt staticlib panel                                 (proves it, and writes target/staticlib/libpanel.a)
+ *     tools/build.sh panel                               (proves it, and writes target/staticlib/libpanel.a)
  *     gcc -Iinclude x.c target/staticlib/libpanel.a      (g++ likewise; tests/panel/panel.c is an x.c)
  *
  * The library holds objects for x86-64 Linux, and links into nothing else. It may stand beside libembed.a.

@@ -15,7 +15,7 @@ import tempfile
 import time
 
 ROOT = pathlib.Path(__file__).resolve().parent.parent
-PROGRAM = ['sh', str(ROOT / 'tests/run.sh'), str(ROOT / 'target/bin/rs274')]
+PROGRAM = [str(ROOT / 'target/bin/rs274')]
 FAR = b'08' + b'0000989680' + b'0' * 20 + b'\n'  # G0 X100
 NEAR = b'08' + b'00000186A0' + b'0' * 20 + b'\n'  # G0 X1
 CHANGE = b'04\n'  # M6
@@ -126,6 +126,7 @@ def nobody_reads():
 
 
 def main():
+    subprocess.run(['sh', ROOT / 'tools/build.sh', 'rs274'], stdin=subprocess.DEVNULL, check=True)
     wrong = [test.__doc__ for test in (directory, closed, waiting, reset, full, nobody_reads) if not test()]
     for doc in wrong:
         print(f'descriptors: wrong: {doc}')

@@ -18,8 +18,6 @@ sh tests/link.sh "embed panel" tests/headers/names.cpp $work/names
 $work/names
 sh tests/link.sh lookup tests/index/index.c $work/index
 sh tests/link.sh "embed panel mend lookup" tests/headers/stack.c $work/stack
-if [ "$(uname -m)" = x86_64 ]; then
-    needed=$(nm -u target/staticlib/libembed.a target/staticlib/libpanel.a target/staticlib/libmend.a target/staticlib/liblookup.a | sed -n 's/^ *U //p' | grep -vxE 'mem(cpy|move|set|cmp)' || true)
-    [ -z "$needed" ] || { echo "headers: the libraries also need" $needed; exit 1; }
-fi
+needed=$(nm -u target/staticlib/libembed.a target/staticlib/libpanel.a target/staticlib/libmend.a target/staticlib/liblookup.a | sed -n 's/^ *U //p' | grep -vxE 'mem(cpy|move|set|cmp)' || true)
+[ -z "$needed" ] || { echo "headers: the libraries also need" $needed; exit 1; }
 $work/stack

@@ -2,15 +2,15 @@
 # mend.sh [COUNT [SEED]]: generated old programs through rs274_mend, through the library that a firmware links, and
 # through the second program: the mended text and its list must be the same. What comes out must stay as it is when it is mended again, and only its unmended lines be
 # listed. All programs once more as one long one, in pieces; and lines about as long as rs274_mend can hold.
-# Needs target/bin/rs274_mend (rt check rs274_mend).
 set -eu
 cd "$(dirname "$0")/.."
 count=${1:-300} seed=${2:-7}
 work=target/mend
 rm -rf "$work"
 mkdir -p "$work"
-proved() { tests/run.sh target/bin/rs274_mend; }
+proved() { target/bin/rs274_mend; }
 second() { target/second/second mend; }
+sh tools/build.sh rs274_mend
 sh tests/link.sh mend tests/mend/mend.c $work/library
 sh tests/second.sh old "$seed" "$count" "$work"
 

@@ -3,7 +3,6 @@
 
 Unlike tests/stream.py, which is about the cutting of lines, the programs here carry the record and the table from
 line to line: a line that is worked twice, left out, or worked from an older record changes every frame after it.
-Needs target/bin/rs274 (rt check rs274).
 
     tests/pieces.py [SEED]
 """
@@ -20,7 +19,7 @@ import termios
 import time
 
 ROOT = pathlib.Path(__file__).resolve().parent.parent
-PROGRAM = ['sh', str(ROOT / 'tests/run.sh'), str(ROOT / 'target/bin/rs274')]
+PROGRAM = [str(ROOT / 'target/bin/rs274')]
 SECOND = ROOT / 'target/second/second'
 PATIENCE = 20  # seconds that a frame may take before it is missing
 
@@ -173,6 +172,7 @@ def small_programs(seed, folder):
 
 
 def main():
+    subprocess.run(['sh', ROOT / 'tools/build.sh', 'rs274'], stdin=subprocess.DEVNULL, check=True)
     seed = sys.argv[1] if len(sys.argv) > 1 else '11'
     report, chance = Report(), random.Random(int(seed))
     subprocess.run(['sh', ROOT / 'tests/second.sh', 'frames'], stdin=subprocess.DEVNULL, check=True)  # builds it

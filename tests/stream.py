@@ -12,7 +12,7 @@ import tempfile
 import time
 
 ROOT = pathlib.Path(__file__).resolve().parent.parent
-PROGRAM = ['sh', str(ROOT / 'tests/run.sh'), str(ROOT / 'target/bin/rs274')]
+PROGRAM = [str(ROOT / 'target/bin/rs274')]
 RIGHT, WRONG = b'M6', b')'
 
 
@@ -75,6 +75,7 @@ def answers_at_once():
 
 
 def main():
+    subprocess.run(['sh', ROOT / 'tools/build.sh', 'rs274'], stdin=subprocess.DEVNULL, check=True)
     chance = random.Random(274)
     wrong = tried = 0
     for data in cases():
