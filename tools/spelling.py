@@ -12,7 +12,7 @@ import re
 import sys
 
 ROOT = os.path.dirname(os.path.dirname(os.path.abspath(__file__)))
-NAME = r"[^\s(){}\[\].;,@\"«»]+"
+NAME = r"[^\s(){}\[\].;,@\"«»`]+"
 DECLARED = re.compile(
     r"(?m)^ *(?:(?:unfoldable|abbrev|pub|instance) +)*((?:data|record) +)?(%s)(?: +(?:\{[^{}\n]*\}|\([^()\n]*\)))* +: +(\S+)" % NAME
 )
