@@ -2,113 +2,123 @@
 // standard error which line is refused, and why, and writes nothing.
 #![tactic(auto)]
 
-ghost use Rattle.std.specs.Prelude.{◌≤◌, length};
+ghost use Rattle.std.specs.Prelude.{◌≡◌, ℕ, ◌≤◌, length};
 
-use libc::{STDERR_FILENO, STDIN_FILENO, STDOUT_FILENO};
+use std::io::{ErrorKind, Read};
+use std::{io, thread};
 
-// What was read: so many bytes, or nothing, which is the end of the input; or it cannot be read.
+// What was read: so many bytes, or nothing, which is the end of the input; or it cannot be read, and why.
 #[derive(Clone, Copy)]
 enum Got {
     Bytes(usize),
     End,
-    Failed,
+    Failed(io::Error),
 }
 
-// How many bytes the file has, where there was room for it.
+// How many bytes the file has, where there was room for it; or it cannot be read, and why.
 #[derive(Clone, Copy)]
 enum Whole {
     Bytes(usize),
     TooLong,
-    Failed,
+    Failed(io::Error),
 }
 
 // Reads once; again, where the system says so, after others have had their turn. Nothing says that it
 // ever says otherwise, so the turns are counted down, from a number that no run uses up.
-fn next_piece(bytes: &mut [u8]) -> Got {
+fn next_piece(reader: &mut impl Read, bytes: &mut [u8]) -> Got
+    ensures { (many : ℕ) → result ≡ Got.Bytes many → many ≤ length bytes.new }
+{
     let mut turns = u64::MAX;
     while turns > 0 {
-        let got = libc::read(STDIN_FILENO, bytes);
-        if got == 0 {
-            return Got::End;
+        match reader.read(bytes) {
+            Ok(0) => return Got::End,
+            Ok(many) => return Got::Bytes(many),
+            Err(why) => {
+                if !comes_later(why) {
+                    return Got::Failed(why);
+                }
+            }
         }
-        if got > 0 {
-            return Got::Bytes(io::count(got, bytes));
-        }
-        let why = os::errno();
-        if why != libc::EAGAIN && why != libc::EINTR {
-            return Got::Failed;
-        }
-        libc::sched_yield();
+        thread::yield_now();
         turns -= 1;
     }
-    Got::Failed
+    Got::Failed(io::Error::from(ErrorKind::TimedOut))
+}
+
+// Whether what failed now may go well after others have had their turn.
+fn comes_later(why: io::Error) -> bool {
+    let kind = why.kind();
+    kind == ErrorKind::WouldBlock || kind == ErrorKind::Interrupted
+}
+
+// Says on standard error what failed, and why. Where that cannot be written there is nobody to tell.
+fn say_failed(rt: &impl Eprint, what: &str, why: io::Error) {
+    let _ = eprintln!(rt; "{what}: {why}");
 }
 
 // Reads to the end of the input. A file that fills the space may go on behind it.
-fn read_whole(bytes: &mut [u8]) -> Whole {
+fn read_whole(reader: &mut impl Read, bytes: &mut [u8]) -> Whole
+    ensures { (many : ℕ) → result ≡ Whole.Bytes many → many ≤ length bytes.new }
+{
     let mut filled = 0;
     let mut turns = u64::MAX;
     while turns > 0 {
         if bytes.len() <= filled {
             return Whole::TooLong;
         }
-        let got = next_piece(&mut bytes[filled..]);
+        let got = next_piece(reader, &mut bytes[filled..]);
         match got {
             Got::Bytes(many) => {
-                if bytes.len() - filled < many {
-                    return Whole::Failed;
-                }
                 filled += many;
             }
             Got::End => return Whole::Bytes(filled),
-            Got::Failed => return Whole::Failed,
+            Got::Failed(why) => return Whole::Failed(why),
         }
         turns -= 1;
     }
-    Whole::Failed
+    Whole::Failed(io::Error::from(ErrorKind::TimedOut))
 }
 
-fn say(words: &[u8]) {
-    io::write_all(STDERR_FILENO, words);
+// Says it on standard error. Where it cannot be written there is nobody to tell.
+fn say(rt: &impl Eprint, words: &str) {
+    let _ = rt.eprint(words);
 }
 
-// Says a number, of which the last eight digits are enough for the lines of so short a file.
-fn say_number(number: usize) {
-    let mut unit: usize = 10_000_000;
-    while unit > 0 {
-        if unit <= number || unit == 1 {
-            let digit = [b'0' + (number / unit % 10) as u8];
-            say(&digit);
-        }
-        unit /= 10;
-    }
+fn say_number(rt: &impl Eprint, number: usize) {
+    let _ = rt.eprint(number);
 }
 
 // Why a file is refused.
-fn say_why(number: u8) {
+fn say_why(rt: &impl Eprint, number: u8) {
     match number {
-        20 => say(b"it is no parameter number, blanks and a value\n"),
-        21 => say(b"its parameter number is not above that of the line before it\n"),
-        22 => say(b"its parameter number is not from 1 to 5399\n"),
-        23 => say(b"its value is out of range, or has more decimals than its parameter takes\n"),
-        _ => say(b"the record or the table is out of order\n"),
+        20 => say(rt, "it is no parameter number, blanks and a value\n"),
+        21 => say(
+            rt,
+            "its parameter number is not above that of the line before it\n",
+        ),
+        22 => say(rt, "its parameter number is not from 1 to 5399\n"),
+        23 => say(
+            rt,
+            "its value is out of range, or has more decimals than its parameter takes\n",
+        ),
+        _ => say(rt, "the record or the table is out of order\n"),
     }
 }
 
-fn refuse(text: &[u8], number: u8) {
-    say(b"rs274: line ");
-    say_number(parameters::refused_line(text));
-    say(b" is refused with number ");
-    say_number(number as usize);
-    say(b": ");
-    say_why(number);
+fn refuse(rt: &impl Eprint, text: &[u8], number: u8) {
+    say(rt, "rs274: line ");
+    say_number(rt, parameters::refused_line(text));
+    say(rt, " is refused with number ");
+    say_number(rt, number as usize);
+    say(rt, ": ");
+    say_why(rt, number);
 }
 
 // Writes the file of a text that is accepted.
-fn rewrite(text: &[u8], table: &mut [i64], out: &mut [u8]) {
+fn rewrite(rt: &(impl Print + Eprint), text: &[u8], table: &mut [i64], out: &mut [u8]) {
     let loaded = parameters::read(text, record::fresh(), table);
     if loaded.number != 0 {
-        refuse(text, loaded.number);
+        refuse(rt, text, loaded.number);
         return;
     }
     let rec = loaded.rec;
@@ -117,29 +127,32 @@ fn rewrite(text: &[u8], table: &mut [i64], out: &mut [u8]) {
     if out.len() < count {
         return;
     }
-    if !io::write_all(STDOUT_FILENO, &out[0..count]) {
-        os::fail(b"rs274: cannot write");
+    if let Err(why) = rt.write_all(&out[0..count]) {
+        say_failed(rt, "rs274: cannot write", why);
     }
 }
 
-fn work(bytes: &mut [u8], table: &mut [i64], out: &mut [u8]) {
-    let whole = read_whole(bytes);
+fn work(
+    reader: &mut impl Read,
+    rt: &(impl Print + Eprint),
+    bytes: &mut [u8],
+    table: &mut [i64],
+    out: &mut [u8],
+) {
+    let whole = read_whole(reader, bytes);
     match whole {
         Whole::Bytes(many) => {
-            if bytes.len() < many {
-                return;
-            }
-            rewrite(&bytes[0..many], table, out);
+            rewrite(rt, &bytes[0..many], table, out);
         }
-        Whole::TooLong => say(b"rs274: the file has 262144 bytes or more\n"),
-        Whole::Failed => os::fail(b"rs274: cannot read"),
+        Whole::TooLong => say(rt, "rs274: the file has 262144 bytes or more\n"),
+        Whole::Failed(why) => say_failed(rt, "rs274: cannot read", why),
     }
 }
 
 // A table of zeros, and room for the longest file that is written.
-fn main() {
+fn main(rt: HostRuntime) {
     let mut bytes = [0u8; 262144];
     let mut table = [0i64; 5000];
     let mut out = [0u8; 84393];
-    work(&mut bytes, &mut table, &mut out);
+    work(&mut rt.stdin(), &rt, &mut bytes, &mut table, &mut out);
 }
