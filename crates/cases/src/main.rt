@@ -5,7 +5,11 @@
 
 ghost use Rattle.std.specs.Prelude.{◌≤◌, length};
 
-use libc::{STDIN_FILENO, STDOUT_FILENO};
+use std::io;
+use std::io::Read;
+
+// So many bytes of standard input are read at most.
+const ROOM: u64 = 65536;
 
 // Sets every entry to zero.
 fn clear(table: &mut [i64]) {
@@ -30,43 +34,59 @@ fn next_percent(s: &[u8], from: usize) -> usize
 }
 
 // Works what stands between two percent signs: a run from the start, which goes on after a refusal.
-fn work_part(s: &[u8], line: &mut [u8], table: &mut [i64], out: &mut [i64], text: &mut [u8]) {
+fn work_part(
+    rt: &impl Print,
+    s: &[u8],
+    line: &mut [u8],
+    table: &mut [i64],
+    out: &mut [i64],
+    text: &mut [u8],
+) -> io::Result<()> {
     let mut state = run::fresh();
     let mut taken = 0;
     while taken < s.len() {
         let fed = run::feed(state, &s[taken..], line, table, out, text);
         let filled = fed.filled;
-        io::write_all(STDOUT_FILENO, &text[0..filled]);
+        rt.write_all(&text[0..filled])?;
         let many = fed.taken;
         // No call that is lent spaces as large as these takes nothing.
         if many == 0 {
-            return;
+            return Ok(());
         }
         taken += many;
         let after = fed.state;
         state = run::resume(after);
     }
+    Ok(())
 }
 
 // Works every part of s. The line feed behind a percent sign ends an empty line of the next part.
-fn work_parts(s: &[u8], line: &mut [u8], table: &mut [i64], out: &mut [i64], text: &mut [u8]) {
+fn work_parts(
+    rt: &impl Print,
+    s: &[u8],
+    line: &mut [u8],
+    table: &mut [i64],
+    out: &mut [i64],
+    text: &mut [u8],
+) -> io::Result<()> {
     let mut at = 0;
     while at < s.len() {
         let end = next_percent(s, at);
         clear(table);
-        work_part(&s[at..end], line, table, out, text);
+        work_part(rt, &s[at..end], line, table, out, text)?;
         at = end + 1;
     }
+    Ok(())
 }
 
 // The table is all zero, and there are 8,000 numbers of output space. The text holds the frames of the
 // nine commands that a line makes at most.
-fn main() {
-    let mut bytes = io::large_buffer();
+fn main(rt: HostRuntime) -> io::Result<()> {
+    let mut bytes = Vec::new(rt.alloc());
     let mut line = [0u8; 257];
     let mut table = [0i64; 5000];
     let mut out = [0i64; 8000];
     let mut text = [0u8; 657];
-    let held = io::read_full(STDIN_FILENO, &mut bytes);
-    work_parts(&bytes[0..held], &mut line, &mut table, &mut out, &mut text);
+    rt.stdin().take(ROOM).read_to_end(&mut bytes)?;
+    work_parts(&rt, &bytes, &mut line, &mut table, &mut out, &mut text)
 }
