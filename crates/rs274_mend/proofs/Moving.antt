@@ -1,12 +1,9 @@
 -- Bytes moved to the front, one by one: those before are moved, and those behind are as they were.
 -- Assumes nothing.
-use mathlib.Core.Path.{◌≡◌, refl, sym, ap, ◌∙◌}
-use mathlib.Core.List.{List, [], ◌∷◌, ◌++◌}
-use Prim.Native.Nat.{ℕ, suc, ◌+◌, ◌-◌, ◌≤◌, ◌<◌}
-use native.Mathlib.Numerals.{add-one}
-use native.Mathlib.Omega.{arith}
-use lib.ListN.{length, get_or, take, drop, set, length-set, length-drop}
-use lib.Seq.{take-suc, take-suc-set, take-add, drop-set-lt, drop-drop, drop_at, get_or-drop, length-take-le}
+use Rattle.std.proofs.Common.{◌≡◌, refl, sym, ap, ◌∙◌, List, [], ◌∷◌, ◌++◌, ℕ, suc, ◌+◌, ◌-◌, ◌≤◌, ◌<◌, arith, length, get_or, take, drop, length-drop}
+use Rattle.std.proofs.Math.ListN.{set, length-set}
+use Rattle.std.proofs.Math.Seq.{take-suc, take-suc-set, take-add, drop-set-lt, drop-drop, drop_at, get_or-drop}
+use Rattle.std.proofs.lemmas.List.{length-take-le}
 use Rattle.mend.specs.Cutting.{part}
 use Rattle.mend.specs.Joining.{ended_lines}
 use Rattle.mend.proofs.Joining.{ended_most}
