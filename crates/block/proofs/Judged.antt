@@ -2,18 +2,15 @@
 -- Assumes nothing.
 use mathlib.Core.Path.{◌≡◌, refl, sym, ap, ◌∙◌}
 use mathlib.Core.Bool.{Bool, true, false, cond, not, ◌&&◌, ◌||◌, and-eq-true_iff}
-use mathlib.Core.List.{List, [], ◌∷◌}
+use mathlib.Core.List.{[], ◌∷◌}
 use borrow.Author.Tests.{not-false}
 use Rattle.grammar.specs.Bytes.{among}
-use Rattle.rules.specs.Numbers.{whole, counted}
-use Rattle.rules.specs.Block.{has, moves, sets_origin, sets_offset}
-use Rattle.rules.specs.Reach.{nowhere, in_reach, fresh}
-use Rattle.rules.specs.With.{with_origins}
+use Rattle.rules.specs.Block.{moves, sets_origin, sets_offset}
+use Rattle.rules.specs.Reach.{nowhere, in_reach}
 use Rattle.rules.specs.Steps.{motion_of, origin_of, origin_system, target}
 use Rattle.rules.specs.Arcs.{arc_move, centre, bad_arc}
 use Rattle.rules.specs.Commands.{commands, move_command}
 use Rattle.rules.specs.Refusals.{too_far}
-use Rattle.rules.specs.declared.Length.{Length}
 use Rattle.rules.specs.declared.Block.{Block}
 use Rattle.rules.specs.declared.Record.{Record}
 use Rattle.orders.specs.Orders.{asked, order, orders_of}

@@ -3,13 +3,25 @@
 // not disturb each other.
 #![tactic(auto)]
 
-ghost use Rattle.std.specs.Prelude.{◌≤◌, length};
+ghost use Rattle.std.specs.Prelude.{◌≡◌, ℕ, ◌≤◌, length, Ok};
 
 use std::io;
 use std::io::Read;
 
-// So many bytes of standard input are read at most.
-const ROOM: u64 = 65536;
+// Reads until the space is full or the input ends, and answers how many bytes that were.
+fn read_full(reader: &mut impl Read, bytes: &mut [u8]) -> io::Result<usize>
+    ensures { (many : ℕ) → result ≡ Ok many → many ≤ length bytes.new }
+{
+    let mut held = 0;
+    while held < bytes.len() {
+        let many = reader.read(&mut bytes[held..])?;
+        if many == 0 {
+            return Ok(held);
+        }
+        held += many;
+    }
+    Ok(held)
+}
 
 // Sets every entry to zero.
 fn clear(table: &mut [i64]) {
@@ -82,11 +94,11 @@ fn work_parts(
 // The table is all zero, and there are 8,000 numbers of output space. The text holds the frames of the
 // nine commands that a line makes at most.
 fn main(rt: HostRuntime) -> io::Result<()> {
-    let mut bytes = Vec::new(rt.alloc());
+    let mut bytes = [0u8; 65536];
     let mut line = [0u8; 257];
     let mut table = [0i64; 5000];
     let mut out = [0i64; 8000];
     let mut text = [0u8; 657];
-    rt.stdin().take(ROOM).read_to_end(&mut bytes)?;
-    work_parts(&rt, &bytes, &mut line, &mut table, &mut out, &mut text)
+    let held = read_full(&mut rt.stdin(), &mut bytes)?;
+    work_parts(&rt, &bytes[..held], &mut line, &mut table, &mut out, &mut text)
 }

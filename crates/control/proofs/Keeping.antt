@@ -1,23 +1,21 @@
 -- Whoever works a line from what the reader leaves keeps the promise.
 -- Assumes nothing.
-use mathlib.Core.Path.{◌≡◌, refl, ap, ap₂, ◌∙◌, sym}
-use mathlib.Core.Bool.{Bool, true, false, cond, not, ◌||◌, or-true}
-use mathlib.Core.List.{List, [], ◌∷◌, ◌++◌, map}
-use mathlib.Core.Logic.{◌⊎◌, inl, inr, ⊎_elim}
+use mathlib.Core.Path.{◌≡◌, refl, ap, ◌∙◌, sym}
+use mathlib.Core.Bool.{Bool, true, false, cond, not, or-true}
+use mathlib.Core.List.{List, [], ◌∷◌, map}
+use mathlib.Core.Logic.{◌⊎◌, inl, inr}
 use mathlib.Core.Option.{Option, none, some}
 use Prim.Native.Nat.{ℕ, zero, suc, ◌+◌, ◌≤◌, ◌<◌}
 use native.Mathlib.Omega.{arith}
-use lib.Dec.{T, eqb, ltb, eqb→eq, T_not}
+use lib.Dec.{eqb}
 use lib.ListN.{length, take, drop}
 use lib.Seq.{sets, sets-eq, take-append_seam}
 use lib.IntN.{ℤ}
 use borrow.Author.Tests.{le-ltb, lt-ltb, eq-eqb, ne_eqb}
-use Rattle.laws.proofs.Bools.{T-eq, not_eq}
 use Rattle.grammar.specs.Grammar.{Line}
 use Rattle.grammar.specs.Derivation.{Derives, Form, derived, breaks_at}
 use Rattle.grammar.specs.Working.{Took, end, stopped, took, Contents, contents}
 use Rattle.grammar.proofs.Lengths.{few}
-use Rattle.rules.specs.Numbers.{in_range}
 use Rattle.rules.specs.Meaning.{Entry, word_is, setting_is, Said, Setting, arithmetic, reading, stopped_by, words, settings}
 use Rattle.rules.specs.Block.{block_of}
 use Rattle.rules.specs.Reach.{in_order}

@@ -7,7 +7,7 @@ use Prim.Native.Nat.{ℕ}
 use lib.Dec.{T}
 use lib.IntN.{ℤ}
 use Rattle.laws.proofs.Bools.{T-eq}
-use Rattle.grammar.specs.Grammar.{Item, word, setting, comment, Stroke, Mark, unmarked, plain, conditional, Line, line, letter, ItemsOk, LineOk}
+use Rattle.grammar.specs.Grammar.{Item, word, setting, comment, Stroke, unmarked, plain, conditional, Line, line, letter, ItemsOk, LineOk}
 use Rattle.grammar.specs.Working.{Took, skip, stop, after, value, expression, entries, line_entries}
 use Rattle.rules.specs.Meaning.{parameter_of, Entry, word_of, setting_of, setting_at, runs, condition_of, arithmetic, words}
 use Rattle.rules.specs.declared.Worked.{Worked}

@@ -251,7 +251,7 @@ pub fn work(
     table: &mut [i64],
     out: &mut [i64],
 ) -> Report
-    ensures { Right line.now switch rec table.old out.old (after result table.new out.new) }
+    ensures { (Right line.now switch rec table.old out.old (after result table.new out.new)) }
 {
     step(line, switch, &mut rec, table, out)
 }

@@ -1,7 +1,7 @@
 -- What a tree writes is read back.
-use mathlib.Core.Path.{◌≡◌, refl, ap, ◌∙◌, sym, subst}
-use mathlib.Core.Bool.{Bool, true, false, ◌&&◌, ◌||◌, cond, not}
-use mathlib.Core.List.{List, [], ◌∷◌, ◌++◌, append_assoc, append-nil}
+use mathlib.Core.Path.{◌≡◌, refl, ap, ◌∙◌}
+use mathlib.Core.Bool.{Bool, true, false, ◌||◌, not}
+use mathlib.Core.List.{List, [], ◌∷◌, ◌++◌, append_assoc}
 use Prim.Native.Nat.{ℕ, zero, suc, ◌+◌, ◌≤◌, ◌<◌}
 use native.Mathlib.Omega.{arith}
 use lib.Dec.{T, leb, eqb, eqb→eq, le→leb, T_not}
@@ -11,8 +11,8 @@ use Rattle.grammar.specs.Grammar.{Fraction, whole, point, Number, num, Value, nu
 use Rattle.grammar.specs.Grammar.{spell_sign, spell_func, spell_op, digit, fraction_digits, write_fraction, write_number, write_value, write_expr, write_rest, NumberOk, NumOk, ValueOk, ExprOk, RestOk}
 use Rattle.grammar.specs.Bytes.{byte, all}
 use Rattle.laws.proofs.Bools.{and_left, and_right, neither_left, neither_right, T-eq, not_eq}
-use Rattle.grammar.proofs.Read.{Read, fail, got, eat, bind, map_r, take_while, drop_while, read_sign, read_fraction, finish, read_number, opens_number}
-use Rattle.grammar.proofs.Read.{Head, hash, bare, call, spell_head, Tail, close, oper, spell_tail, read_expr, read_value, read_rest}
+use Rattle.grammar.proofs.Read.{got, bind, map_r, take_while, drop_while, read_sign, read_fraction, read_number, opens_number}
+use Rattle.grammar.proofs.Read.{read_expr, read_value, read_rest}
 use Rattle.grammar.specs.declared.Op.{Op}
 use Rattle.grammar.specs.declared.Op.TheVariants.{Add, Sub, Mul, Div, Mod, And, Or, Xor}
 use Rattle.grammar.specs.declared.Func.{Func}

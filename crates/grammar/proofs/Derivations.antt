@@ -1,6 +1,6 @@
 -- Demand 3, said of the grammar alone: a derivation is unique, and whether there is one is decided.
-use mathlib.Core.Path.{◌≡◌, refl, ap, ◌∙◌, sym, subst}
-use mathlib.Core.List.{List, [], ◌∷◌, ◌++◌, append-nil}
+use mathlib.Core.Path.{◌≡◌, refl, ap, ◌∙◌, sym}
+use mathlib.Core.List.{List, [], ◌∷◌, append-nil}
 use mathlib.Core.Option.{Option, none, some}
 use mathlib.Core.Logic.{◌⊎◌, inl, inr}
 use Prim.Native.Nat.{ℕ}

@@ -1,20 +1,20 @@
 -- Fuel past the bytes to read changes nothing. So each reader, run with as much as its bytes need, meets an equation with no fuel in it: what a
 -- function that recurses on the bytes left is proved by.
 use mathlib.Core.Path.{◌≡◌, refl, ap, ◌∙◌, sym}
-use mathlib.Core.Bool.{Bool, true, false, cond}
-use mathlib.Core.List.{List, [], ◌∷◌, ◌++◌}
+use mathlib.Core.Bool.{cond}
+use mathlib.Core.List.{List, ◌++◌}
 use Prim.Native.Nat.{ℕ, zero, suc, ◌+◌, ◌≤◌, ◌<◌}
 use native.Mathlib.Omega.{arith}
 use lib.ListN.{length, length-append}
 use Rattle.grammar.specs.Bytes.{bytes}
-use Rattle.grammar.specs.Grammar.{Value, number, parameter, applied, grouped, Expr, expr, Rest, done, more, write_value, ValueOk, spell_func, spell_op}
-use Rattle.grammar.specs.Working.{Arithmetic, value, Step, Took, end, after, step_of}
-use Rattle.grammar.proofs.Read.{Read, fail, got, eat, bind, map_r, read_number, opens_number, read_head, read_tail, value_of, rest_of, read_item}
+use Rattle.grammar.specs.Grammar.{Value, number, parameter, applied, grouped, expr, Rest, more, spell_func, spell_op}
+use Rattle.grammar.specs.Working.{Arithmetic, value}
+use Rattle.grammar.proofs.Read.{Read, fail, got, bind, map_r, read_number, opens_number, read_head, read_tail, value_of, rest_of}
 use Rattle.grammar.proofs.Read.{Head, hash, bare, call, spell_head, Tail, close, oper, spell_tail, read_expr, read_after, read_more, read_value, read_rest}
 use Rattle.grammar.proofs.Back.{spells}
-use Rattle.grammar.proofs.Sound.{Good, nothing, front, Any, head_good, tail_good, value_good, value_of_good, item_good}
+use Rattle.grammar.proofs.Sound.{Good, nothing, front, head_good, tail_good, value_good}
 use Rattle.grammar.proofs.Terms.{Pass}
-use Rattle.grammar.proofs.OnePass.{calc_expr, calc_after, calc_more, calc_value, calc_rest, value_same, rest_same, calc_of, calc_rest_of, calc_value_holds, calc_item, calc_items, calc_items_of, item_same}
+use Rattle.grammar.proofs.OnePass.{calc_expr, calc_after, calc_more, calc_value, calc_rest, value_same, rest_same, calc_of, calc_rest_of}
 
 -- at most n bytes are left
 pub data Within {A : Type 0} (n : ℕ) : Read A → Type 0 where

@@ -1,23 +1,23 @@
 -- Items and the whole line by places.
-use mathlib.Core.Path.{◌≡◌, refl, ap, ap₂, ◌∙◌, sym}
+use mathlib.Core.Path.{◌≡◌, refl, ap, ◌∙◌, sym}
 use mathlib.Core.Bool.{Bool, true, false, cond}
-use mathlib.Core.List.{List, [], ◌∷◌, ◌++◌}
+use mathlib.Core.List.{List, [], ◌∷◌}
 use Prim.Native.Nat.{ℕ, zero, suc, ◌+◌, ◌-◌, ◌≤◌, ◌<◌}
 use native.Mathlib.Omega.{arith}
 use native.Mathlib.Numerals.{add-one}
-use lib.Dec.{eqb, leb}
-use lib.ListN.{length, drop, get_or, length-append, length-drop, drop_of_length-le}
+use lib.Dec.{eqb}
+use lib.ListN.{length, drop, get_or, length-drop, drop_of_length-le}
 use lib.Seq.{drop-cons}
 use Rattle.grammar.specs.Bytes.{byte, bytes}
-use Rattle.grammar.specs.Grammar.{Item, ItemOk, letter, remark, digit, Label, label, unlabelled, Mark, write_item, write_items}
+use Rattle.grammar.specs.Grammar.{Item, ItemOk, letter, remark, Label, write_item}
 use Rattle.grammar.specs.Working.{Arithmetic, Step, skip, Took, end, after, step_of, entries, mark_step}
-use Rattle.grammar.proofs.Read.{Read, fail, got, eat, bind, map_r, take_while, drop_while, value_of, read_item, read_items, items_of, read_label, read_mark, labelled}
+use Rattle.grammar.proofs.Read.{Read, fail, got, eat, bind, map_r, drop_while, read_item, read_items, read_label}
 use Rattle.grammar.proofs.LineBack.{item_writes}
-use Rattle.grammar.proofs.Sound.{Good, nothing, front, byte_good, item_good, value_of_good, label_good, mark_good}
+use Rattle.grammar.proofs.Sound.{Good, front, byte_good, item_good, label_good, mark_good}
 use Rattle.grammar.proofs.Terms.{Pass}
-use Rattle.grammar.proofs.OnePass.{calc_of, calc_value_holds, calc_item, calc_setting, calc_items, calc_items_of, calc_mark, calc_line, mark_same, item_same, items_same, items_of_same}
+use Rattle.grammar.proofs.OnePass.{calc_of, calc_item, calc_setting, calc_items, calc_items_of, calc_mark, calc_line, mark_same, item_same, items_same}
 use Rattle.grammar.proofs.Fuel.{read_agree, shorter}
-use Rattle.grammar.proofs.Place.{Placed, wrong, found, bind_p, map_p, place, Sits, off, sits, good_sits, map_sits, place_bind, place_map, place_cond, value_p, calc_sits}
+use Rattle.grammar.proofs.Place.{Placed, wrong, found, bind_p, map_p, place, Sits, good_sits, map_sits, place_bind, place_map, value_p, calc_sits}
 
 -- fuel past the bytes to read changes nothing
 pub items_fuel : (f g : ℕ) (s : List ℕ) → length s < f → length s < g → read_items f s ≡ read_items g s

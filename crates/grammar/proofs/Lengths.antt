@@ -1,6 +1,6 @@
 -- How much a line can hold: a prepared line is no longer than the line, a word writes at least two bytes and a setting four.
 -- Assumes nothing.
-use mathlib.Core.Path.{◌≡◌, ap, sym, ◌∙◌}
+use mathlib.Core.Path.{ap}
 use mathlib.Core.Bool.{Bool, true, false, cond}
 use mathlib.Core.List.{List, [], ◌∷◌, ◌++◌}
 use Prim.Native.Nat.{ℕ, suc, ◌+◌, ◌*◌, ◌≤◌}
@@ -9,7 +9,7 @@ use lib.Dec.{eqb}
 use lib.ListN.{length, length-append}
 use Rattle.grammar.specs.Bytes.{byte}
 use Rattle.grammar.specs.Grammar.{Fraction, whole, point, Number, num, Value, number, parameter, applied, grouped, Expr, expr, Item, word, setting, comment, Line, line}
-use Rattle.grammar.specs.Grammar.{spell_sign, spell_func, write_mark, write_fraction, fraction_digits, write_number, write_value, write_expr, write_rest, write_item, write_items, write_label, write, NumOk, ValueOk, ItemOk, ItemsOk}
+use Rattle.grammar.specs.Grammar.{spell_sign, spell_func, write_mark, write_fraction, fraction_digits, write_number, write_value, write_expr, write_items, write_label, NumOk, ValueOk, ItemsOk}
 use Rattle.grammar.specs.Derivation.{strip, inside, blank, raise, Derives}
 
 fraction_bytes : (f : Fraction) → length (fraction_digits f) ≤ length (write_fraction f)

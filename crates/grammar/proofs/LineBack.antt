@@ -1,18 +1,17 @@
 -- What a line's tree writes is read back.
-use mathlib.Core.Path.{◌≡◌, refl, ap, ◌∙◌, sym, subst}
-use mathlib.Core.Bool.{Bool, true, false, ◌&&◌, ◌||◌, cond, not}
-use mathlib.Core.List.{List, [], ◌∷◌, ◌++◌, append_assoc, append-nil}
+use mathlib.Core.Path.{◌≡◌, refl, ap, ◌∙◌}
+use mathlib.Core.Bool.{false, not}
+use mathlib.Core.List.{List, [], ◌∷◌, ◌++◌, append_assoc}
 use Prim.Native.Nat.{ℕ, zero, suc, ◌+◌, ◌≤◌, ◌<◌}
 use native.Mathlib.Omega.{arith}
-use native.Mathlib.Decide.{ℕ_discrete}
 use lib.Dec.{T, leb, eqb, eqb→eq, leb→le, le→leb, not_T, T_not}
 use lib.ListN.{length, length-append}
 use Rattle.grammar.specs.Grammar.{Value, write_value, Expr, expr, write_expr, Rest, write_rest, digit, letter, remark, ValueOk, ExprOk, RestOk}
-use Rattle.grammar.specs.Bytes.{byte, bytes, all}
+use Rattle.grammar.specs.Bytes.{byte, bytes}
 use Rattle.grammar.specs.Grammar.{Item, word, setting, comment, Stroke, slash, backslash, Mark, unmarked, plain, conditional, Label, label, unlabelled, Line, line}
 use Rattle.grammar.specs.Grammar.{write_item, write_items, spell_stroke, write_mark, write_label, write, ItemOk, ItemsOk, LabelOk, MarkOk, LineOk}
-use Rattle.grammar.proofs.Read.{Read, fail, got, eat, bind, map_r, take_while, drop_while, value_of, rest_of, items_of, expr_of, read_condition, read_mark}
-use Rattle.grammar.proofs.Read.{read_value, read_setting, read_comment, read_item, read_items, read_label, read_line}
+use Rattle.grammar.proofs.Read.{got, bind, map_r, value_of, rest_of, items_of, expr_of, read_condition, read_mark}
+use Rattle.grammar.proofs.Read.{read_item, read_items, read_label, read_line}
 use Rattle.grammar.proofs.Back.{Stops, numeral, take_back, drop_back, differs, value_back, rest_back, rest_stops, inner, stops_digit}
 use Rattle.laws.proofs.Bools.{and_right, or_cases, T-eq, below}
 

@@ -1,15 +1,15 @@
 -- One pass over the bytes that works the values out as it reads, and comes to what the tree comes to.
 use mathlib.Core.Path.{◌≡◌, refl, ap, ◌∙◌, sym}
 use mathlib.Core.Bool.{Bool, true, false, cond}
-use mathlib.Core.List.{List, [], ◌∷◌, ◌++◌}
+use mathlib.Core.List.{List, [], ◌∷◌}
 use Prim.Native.Nat.{ℕ, zero, suc}
 use lib.Dec.{eqb}
 use lib.ListN.{length}
 use Rattle.grammar.specs.Bytes.{byte, bytes}
-use Rattle.grammar.specs.Grammar.{Number, Value, number, parameter, applied, grouped, Expr, expr, Rest, done, more, Item, word, setting, comment, letter, remark, Stroke, slash, backslash, Mark, unmarked, plain, conditional, Label, Line, line}
+use Rattle.grammar.specs.Grammar.{Value, expr, Rest, more, Item, setting, comment, letter, remark, Stroke, slash, backslash, Mark, line}
 use Rattle.grammar.specs.Working.{Arithmetic, value, expression, pairs, Step, skip, Took, end, after, step_of, entries, mark_step, line_entries}
 use Rattle.grammar.proofs.Read.{Read, fail, got, eat, bind, map_r, read_number, opens_number, read_head, read_tail}
-use Rattle.grammar.proofs.Read.{Head, hash, bare, call, Tail, close, oper, read_expr, read_after, read_more, read_value, read_rest, value_of, rest_of, read_item, read_items, items_of, read_setting, read_comment, take_while, drop_while, read_label, expr_of, read_condition, read_mark, read_line}
+use Rattle.grammar.proofs.Read.{Head, hash, bare, call, Tail, close, oper, read_expr, read_after, read_more, read_value, read_rest, value_of, rest_of, read_item, read_items, items_of, read_setting, take_while, drop_while, read_label, expr_of, read_condition, read_mark, read_line}
 use Rattle.grammar.proofs.Terms.{Pass, one_pass}
 use Rattle.grammar.specs.declared.Op.{Op}
 

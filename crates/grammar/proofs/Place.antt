@@ -2,20 +2,18 @@
 use mathlib.Core.Path.{◌≡◌, refl, ap, ap₂, ◌∙◌, sym}
 use mathlib.Core.Bool.{Bool, true, false, cond}
 use mathlib.Core.List.{List, [], ◌∷◌, ◌++◌, append_assoc}
-use Prim.Native.Nat.{ℕ, zero, suc, ◌+◌, ◌-◌, ◌≤◌, ◌<◌}
+use Prim.Native.Nat.{ℕ, ◌+◌, ◌-◌, ◌≤◌}
 use native.Mathlib.Omega.{arith}
-use lib.Dec.{eqb}
-use lib.ListN.{length, take, drop, get_or, length-append, length-drop, take-append-drop, drop_of_length-le}
-use lib.Seq.{drop_at, drop-cons}
-use Rattle.grammar.specs.Grammar.{Number, Value, Rest, digit, letter, remark, spell_func}
-use Rattle.grammar.specs.Working.{Arithmetic, value, Step, skip}
-use Rattle.grammar.proofs.Read.{Read, fail, got, eat, bind, map_r, read_number, opens_number, numeric, read_head, read_tail, head_by, tail_by, value_of, drop_while}
+use lib.ListN.{length, take, drop, length-append, length-drop, take-append-drop}
+use lib.Seq.{drop_at}
+use Rattle.grammar.specs.Grammar.{Number}
+use Rattle.grammar.specs.Working.{Arithmetic, value}
+use Rattle.grammar.proofs.Read.{Read, fail, got, eat, bind, map_r, read_number, opens_number, read_head, read_tail}
 use Rattle.grammar.proofs.Read.{Head, hash, bare, call, spell_head, Tail, close, oper, spell_tail}
-use Rattle.grammar.proofs.Sound.{Good, nothing, front, Any, byte_good, head_good, tail_good, value_of_good, number_good}
+use Rattle.grammar.proofs.Sound.{Good, nothing, front, Any, head_good, tail_good, value_of_good}
 use Rattle.grammar.proofs.Terms.{Pass}
-use Rattle.grammar.proofs.OnePass.{calc_expr, calc_after, calc_more, calc_of, calc_rest_of, calc_value_holds, calc_item, calc_setting}
+use Rattle.grammar.proofs.OnePass.{calc_expr, calc_after, calc_more, calc_of, calc_rest_of, calc_value_holds}
 use Rattle.grammar.proofs.Fuel.{calc_eq, calc_rest_eq, Within, out, left, calc_of_within}
-use Rattle.grammar.specs.declared.Op.{Op}
 
 pub data Placed (A : Type 0) : Type 0 where
   wrong : ℕ → Placed A

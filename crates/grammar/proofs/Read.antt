@@ -1,15 +1,14 @@
 -- A functional reader of the grammar, with fuel: the proofs' tool, no part of the rules. Where it fails it says what was left: the first byte at which it could not go on.
-use mathlib.Core.Path.{◌≡◌, refl}
-use mathlib.Core.Bool.{Bool, true, false, ◌&&◌, ◌||◌, cond}
+use mathlib.Core.Bool.{Bool, false, ◌||◌, cond}
 use mathlib.Core.List.{List, [], ◌∷◌, ◌++◌}
 use mathlib.Core.Option.{Option, none, some}
 use Prim.Native.Nat.{ℕ, zero, suc}
-use lib.Dec.{T, leb, eqb}
+use lib.Dec.{leb, eqb}
 use lib.ListN.{length, drop}
 use Rattle.grammar.specs.Bytes.{byte, bytes}
 use Rattle.grammar.specs.Grammar.{Sign, unsigned, plus, minus}
 use Rattle.grammar.specs.Grammar.{Fraction, whole, point, Number, num, Value, number, parameter, applied, grouped, Expr, expr, Rest, done, more}
-use Rattle.grammar.specs.Grammar.{spell_sign, spell_func, spell_op, digit, fraction_digits, letter, remark}
+use Rattle.grammar.specs.Grammar.{spell_func, spell_op, digit, fraction_digits, letter, remark}
 use Rattle.grammar.specs.Grammar.{Item, word, setting, comment, Stroke, slash, backslash, Mark, unmarked, plain, conditional, Label, label, unlabelled, Line, line}
 use Rattle.grammar.specs.declared.Op.{Op}
 use Rattle.grammar.specs.declared.Op.TheVariants.{Add, Sub, Mul, Div, Mod, And, Or, Xor}

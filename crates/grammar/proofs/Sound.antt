@@ -1,21 +1,20 @@
 -- What the reader answers was written there, by a tree in order.
-use mathlib.Core.Path.{◌≡◌, refl, ap, ◌∙◌, sym, subst}
-use mathlib.Core.Bool.{Bool, true, false, ◌&&◌, ◌||◌, cond, not}
-use mathlib.Core.List.{List, [], ◌∷◌, ◌++◌, append_assoc, append-nil}
-use Prim.Native.Nat.{ℕ, zero, suc, ◌+◌, ◌≤◌, ◌<◌}
+use mathlib.Core.Path.{◌≡◌, refl, ap, ◌∙◌, sym}
+use mathlib.Core.Bool.{Bool, true, false, cond, not}
+use mathlib.Core.List.{List, [], ◌∷◌, ◌++◌, append_assoc}
+use Prim.Native.Nat.{ℕ, zero, suc}
 use native.Mathlib.Omega.{arith}
 use lib.Dec.{T, leb, eqb, eqb→eq, leb→le}
 use lib.ListN.{length}
-use Rattle.grammar.specs.Grammar.{Sign, unsigned, plus, minus}
-use Rattle.grammar.specs.Grammar.{Fraction, whole, point, Number, num, Value, number, parameter, applied, grouped, Expr, expr, Rest, done, more}
-use Rattle.grammar.specs.Grammar.{spell_sign, spell_func, spell_op, digit, fraction_digits, write_fraction, write_number, write_value, write_expr, write_rest, NumberOk, NumOk, ValueOk, ExprOk, RestOk}
+use Rattle.grammar.specs.Grammar.{Value, number, parameter, applied, grouped, expr, Rest, more}
+use Rattle.grammar.specs.Grammar.{spell_sign, spell_func, digit, fraction_digits, write_fraction, write_number, write_value, write_expr, write_rest, NumOk, ValueOk, ExprOk, RestOk}
 use Rattle.grammar.specs.Bytes.{byte, bytes, all}
-use Rattle.grammar.specs.Grammar.{letter, remark, Item, word, setting, comment, Stroke, slash, backslash, Mark, unmarked, plain, conditional, Label, label, unlabelled, Line, line}
+use Rattle.grammar.specs.Grammar.{letter, remark, word, setting, comment, Stroke, slash, backslash, plain, conditional, line}
 use Rattle.grammar.specs.Grammar.{write_item, write_items, spell_stroke, write_mark, write_label, write, ItemOk, ItemsOk, LabelOk, MarkOk, LineOk}
-use Rattle.grammar.proofs.Read.{Read, fail, got, eat, bind, map_r, take_while, drop_while, read_sign, read_fraction, finish, read_number}
-use Rattle.grammar.proofs.Read.{Head, hash, bare, call, spell_head, Tail, close, oper, spell_tail, numeric, opens_number, read_f, head_by, read_head, tail_by, read_tail, read_expr, read_after, read_more, read_value, read_rest}
+use Rattle.grammar.proofs.Read.{Read, fail, got, eat, bind, map_r, take_while, drop_while, read_sign, read_fraction, read_number}
+use Rattle.grammar.proofs.Read.{Head, hash, bare, call, spell_head, Tail, close, oper, spell_tail, opens_number, read_f, read_head, read_tail, read_expr, read_after, read_more, read_value, read_rest}
 use Rattle.grammar.proofs.Read.{value_of, rest_of, read_setting, read_comment, read_item, read_items, items_of, read_label, expr_of, read_condition, read_mark, read_line}
-use Rattle.grammar.specs.declared.Op.TheVariants.{Add, Sub, Mul, Div, Mod, And, Or, Xor}
+use Rattle.grammar.specs.declared.Op.TheVariants.{Mod, And, Or, Xor}
 use Rattle.grammar.specs.declared.Func.TheVariants.{Abs, Fix, Fup, Round}
 
 -- the answer to the bytes s: what it read is written at their front, and is in order

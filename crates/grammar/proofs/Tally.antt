@@ -7,7 +7,7 @@ use mathlib.Core.List.{List, [], ◌∷◌}
 use Prim.Native.Nat.{ℕ, suc, ◌+◌, max}
 use native.Mathlib.Omega.{arith}
 use Rattle.grammar.specs.Grammar.{Value, number, parameter, applied, grouped, Expr, expr, Rest, done, more, Item, word, setting, comment, unmarked, plain, conditional, Line, line}
-use Rattle.grammar.specs.Work.{value_work, expr_work, rest_work, items_work, work, value_depth, expr_depth, rest_depth, items_depth, depth}
+use Rattle.grammar.specs.Work.{value_work, expr_work, rest_work, items_work, value_depth, expr_depth, rest_depth, items_depth}
 use Rattle.grammar.specs.Working.{Arithmetic, Step, give, Took, end, stopped, took, Contents, high, Pair, pair, Sum, push, after, terms, total, in_order, value, expression, pairs, entries, line_entries, contents}
 use Rattle.grammar.specs.declared.Op.{Op}
 use Rattle.grammar.proofs.Terms.{onward, Pass, one_pass}

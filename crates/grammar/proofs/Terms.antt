@@ -1,10 +1,10 @@
 -- An expression worked out in one pass (`Pass`), over any arithmetic and however the state is kept. One way to keep it (`Levels`) is one term in hand, and a low
 -- operator with its left side that waits for it: it comes to what the rules' two levels come to (the terms, then their sum).
 -- Assumes nothing.
-use mathlib.Core.Path.{◌≡◌, refl, ap, ◌∙◌, sym}
-use mathlib.Core.Bool.{Bool, true, false, cond}
+use mathlib.Core.Path.{◌≡◌, refl, ◌∙◌}
+use mathlib.Core.Bool.{Bool, true, false}
 use mathlib.Core.List.{List, [], ◌∷◌}
-use Rattle.grammar.specs.Working.{Arithmetic, high, Pair, pair, Sum, push, terms, total, in_order}
+use Rattle.grammar.specs.Working.{Arithmetic, high, Pair, pair, terms, total, in_order}
 use Rattle.grammar.specs.declared.Op.{Op}
 
 -- from a state on, operator after operator, to the end of the expression

@@ -4,7 +4,7 @@
 use mathlib.Core.Path.{◌≡◌, refl, ap, ap₂, ◌∙◌, sym}
 use mathlib.Core.Bool.{Bool, true, false, cond}
 use mathlib.Core.List.{List, [], ◌∷◌}
-use Prim.Native.Nat.{ℕ, suc, ◌+◌, ◌-◌, ◌≤◌, ◌<◌}
+use Prim.Native.Nat.{ℕ, suc, ◌+◌, ◌≤◌, ◌<◌}
 use native.Mathlib.Omega.{arith}
 use native.Mathlib.Numerals.{add-one}
 use lib.Dec.{eqb}
@@ -14,7 +14,7 @@ use Rattle.grammar.specs.Bytes.{byte, bytes}
 use Rattle.grammar.specs.Grammar.{Value, number, parameter, applied, grouped, Expr, expr, Rest, done, more, Item, word, setting, comment, Stroke, slash, backslash, Mark, unmarked, plain, conditional, Line, line, Label}
 use Rattle.grammar.specs.Grammar.{letter, remark, write_value, ValueOk, write_item, ItemOk, write_mark, MarkOk, write_label, LabelOk}
 use Rattle.grammar.proofs.Read.{Read, fail, got, eat, bind, map_r, take_while, drop_while, read_number, read_after, read_expr, read_more, rest_of, value_of, opens_number, Head, hash, bare, call, Tail, close, oper}
-use Rattle.grammar.proofs.Read.{read_item, read_setting, read_items, items_of, read_label, expr_of, read_condition, read_mark, read_head, read_line}
+use Rattle.grammar.proofs.Read.{read_item, read_setting, items_of, read_label, expr_of, read_condition, read_mark, read_head, read_line}
 use Rattle.grammar.proofs.LineBack.{item_writes}
 use Rattle.grammar.proofs.Sound.{Good, nothing, front, byte_good, head_good, tail_good, value_of_good, item_good, label_good, mark_good}
 use Rattle.grammar.proofs.Fuel.{value_eq, rest_eq, read_agree, shorter}

@@ -1,7 +1,7 @@
 -- The grammar of document 01 as derivation trees, what a tree writes, and what the rules ask of its leaves.
 -- No reader is in it. The quoted sentences are the document's.
 -- Assumes nothing.
-use Rattle.std.specs.Prelude.{Bool, true, false, ◌&&◌, ◌||◌, not, List, [], ◌∷◌, ◌++◌, ℕ, ◌≤◌, T, leb, eqb, length}
+use Rattle.std.specs.Prelude.{Bool, ◌&&◌, ◌||◌, not, List, [], ◌∷◌, ◌++◌, ℕ, ◌≤◌, T, leb, eqb, length}
 use Rattle.grammar.specs.Bytes.{byte, bytes, among, all}
 use Rattle.grammar.specs.declared.Op.{Op}
 use Rattle.grammar.specs.declared.Op.TheVariants.{Add, Sub, Mul, Div, Mod, And, Or, Xor}

@@ -1,6 +1,6 @@
 -- The blanks before a byte.
 -- Assumes nothing.
-use Rattle.std.specs.Prelude.{Bool, cond, List, [], ◌∷◌, ℕ, suc, ◌+◌, drop}
+use Rattle.std.specs.Prelude.{cond, List, [], ◌∷◌, ℕ, suc, ◌+◌, drop}
 use Rattle.grammar.specs.Derivation.{blank}
 
 -- how many blanks stand first

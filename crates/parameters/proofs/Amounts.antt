@@ -15,7 +15,7 @@ use lib.Seq.{slice, slice_empty, slice-cons, length-slice}
 use borrow.Author.Tests.{le-leb, lt-leb, lt-ltb, le-ltb, leb-true}
 use Rattle.grammar.specs.Bytes.{byte}
 use Rattle.grammar.specs.Grammar.{Number, num}
-use Rattle.rules.specs.Numbers.{signed, minus, within}
+use Rattle.rules.specs.Numbers.{signed, within}
 use Rattle.rules.specs.Meaning.{decimal, negative}
 use Rattle.parameters.specs.Places.{fine, filled, decimals, allowed, judged, value_in}
 use Rattle.parameters.specs.Told.{sign_in, whole_in, PartsOf, valued_by}

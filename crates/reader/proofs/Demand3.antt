@@ -15,7 +15,7 @@ use lib.ListN.{length, drop, length-map}
 use lib.Seq.{sets, sets-eq}
 use Rattle.grammar.specs.Grammar.{Item, word, setting, comment, Mark, unmarked, plain, conditional, Line, line}
 use Rattle.grammar.specs.Derivation.{Derives, Place}
-use Rattle.grammar.specs.Work.{work, depth}
+use Rattle.grammar.specs.Work.{work}
 use Rattle.grammar.specs.Working.{Step, skip, stop, Took, end, stopped, took, Contents, after, value, expression, entries, mark_step, line_entries, contents}
 use Rattle.grammar.proofs.Stuck.{stuck_at, breaks}
 use Rattle.grammar.proofs.ByForm.{by_form_sole}
@@ -26,7 +26,7 @@ use Rattle.rules.specs.declared.Worked.{Worked}
 use Rattle.rules.specs.declared.Worked.TheVariants.{Good, Bad}
 use Rattle.rules.specs.declared.Parameter.{Parameter}
 use Rattle.rules.specs.declared.Parameter.TheVariants.{Number as Numbered, Outside}
-use Rattle.reader.specs.Reading.{Spaces, zeros, stored, stop_of, counted, outcome, left_for, leaves, Left, left, Reads}
+use Rattle.reader.specs.Reading.{Spaces, zeros, stored, stop_of, counted, outcome, left_for, Left, left, Reads}
 use Rattle.reader.specs.declared.line.Reading.{Reading}
 use Rattle.reader.specs.declared.line.Reading.TheVariants.{Read as Whole, Stopped, Deep, Wrong, TooLong}
 use Rattle.reader.proofs.Stops.{Stopping, StopsSo, line_stops}

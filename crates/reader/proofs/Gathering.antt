@@ -11,7 +11,7 @@ use lib.IntN.{ℤ}
 use lib.ListN.{length, set}
 use Rattle.grammar.specs.Grammar.{Item}
 use Rattle.grammar.specs.Work.{item_work, items_work, item_depth, items_depth}
-use Rattle.grammar.specs.Working.{Step, skip, give, stop, Took, step_of, entries}
+use Rattle.grammar.specs.Working.{Step, skip, give, stop, step_of, entries}
 use Rattle.grammar.proofs.Place.{Placed, wrong, found, map_p}
 use Rattle.grammar.proofs.Trees.{item_t, items_t, items_none}
 use Rattle.rules.specs.Meaning.{Entry, word_is, setting_is, words, settings}

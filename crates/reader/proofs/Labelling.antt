@@ -3,14 +3,14 @@
 use mathlib.Core.Path.{◌≡◌, refl, sym, ap, ◌∙◌}
 use mathlib.Core.Bool.{Bool, true, false, cond}
 use mathlib.Core.List.{List, [], ◌∷◌, ◌++◌}
-use Prim.Native.Nat.{ℕ, ◌+◌, ◌^◌, ◌≤◌, ◌<◌, min}
+use Prim.Native.Nat.{ℕ, ◌+◌, ◌^◌, ◌≤◌, ◌<◌}
 use native.Mathlib.Omega.{arith}
 use native.Mathlib.Nat.{pow-le-pow_right}
 use borrow.Author.Tests.{leb-true}
 use lib.Dec.{eqb, leb, lit<}
 use lib.ListN.{length, drop}
 use lib.Seq.{drop-drop}
-use Rattle.grammar.specs.Grammar.{digit, Item, Label, unlabelled, label, Mark, Line, line}
+use Rattle.grammar.specs.Grammar.{digit, Item, Label, unlabelled, label, Mark, line}
 use Rattle.grammar.proofs.Read.{fail, got, take_while, drop_while, read_label, labelled}
 use Rattle.grammar.proofs.Place.{Placed, wrong, found, bind_p, map_p, place}
 use Rattle.grammar.proofs.Trees.{items_t, label_t, label_ends, mark_t, line_t, line_tree}

@@ -1,8 +1,8 @@
 -- Reading to a limit of nesting: one step of each of the functions that call each other, over trees.
 -- Assumes nothing.
-use mathlib.Core.Path.{◌≡◌, refl, sym, ap, ap₂, ◌∙◌}
+use mathlib.Core.Path.{◌≡◌, refl, ap, ap₂, ◌∙◌}
 use mathlib.Core.Bool.{Bool, true, false, cond}
-use mathlib.Core.List.{List, []}
+use mathlib.Core.List.{List}
 use Prim.Native.Nat.{ℕ, suc, ◌+◌, ◌-◌, ◌≤◌, ◌<◌, max}
 use native.Mathlib.Omega.{arith}
 use native.Mathlib.Numerals.{add-one}
@@ -10,12 +10,11 @@ use borrow.Author.Tests.{ltb-true, ltb-false, lt-ltb, le-ltb}
 use lib.Dec.{ltb}
 use lib.IntN.{ℤ}
 use lib.ListN.{length, drop}
-use Rattle.grammar.specs.Grammar.{Value, number, parameter, applied, grouped, Expr, expr, Rest, done, more, Number, write_value}
+use Rattle.grammar.specs.Grammar.{Value, number, parameter, applied, grouped, Expr, expr, Rest, more, Number}
 use Rattle.grammar.specs.Work.{value_work, expr_work, rest_work, value_depth, expr_depth, rest_depth}
 use Rattle.grammar.specs.Working.{value, expression, pairs}
-use Rattle.grammar.proofs.Read.{opens_number, Head, hash, bare, call, Tail, close, oper}
+use Rattle.grammar.proofs.Read.{opens_number, Head, hash, bare, call}
 use Rattle.grammar.proofs.Bare.{value_work_holds}
-use Rattle.grammar.proofs.Terms.{Pass, one_pass}
 use Rattle.grammar.proofs.Place.{Placed, wrong, found, bind_p, map_p, number_p, head_p, tail_p}
 use Rattle.grammar.proofs.Trees.{value_t, rest_t, expr_t, after_t, value_tree, rest_tree, value_ends, value_right}
 use Rattle.grammar.specs.declared.Op.{Op}

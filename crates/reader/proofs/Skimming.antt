@@ -2,14 +2,14 @@
 -- expression's end with its own; so one number stands for all the expressions that are open.
 -- Assumes nothing.
 use mathlib.Core.Path.{◌≡◌, refl, sym, ap, subst, ◌∙◌}
-use mathlib.Core.Bool.{Bool, true, false, cond}
+use mathlib.Core.Bool.{Bool, true, false}
 use mathlib.Core.List.{List}
 use Prim.Native.Nat.{ℕ, suc, ◌+◌, ◌-◌, ◌≤◌, ◌<◌}
 use native.Mathlib.Omega.{arith}
 use native.Mathlib.Numerals.{add-one}
 use lib.ListN.{length, drop}
-use Rattle.grammar.specs.Grammar.{Number, Value, number, parameter, applied, grouped, expr, more, done, write_value}
-use Rattle.grammar.proofs.Read.{opens_number, Head, hash, bare, call, Tail, close, oper}
+use Rattle.grammar.specs.Grammar.{Number, Value, number, parameter, applied, grouped, expr, more}
+use Rattle.grammar.proofs.Read.{opens_number, hash, bare, call, close, oper}
 use Rattle.grammar.proofs.Place.{Placed, wrong, found, bind_p, map_p, number_p, head_p, tail_p, tail_on}
 use Rattle.grammar.proofs.Trees.{value_t, rest_t, expr_t, after_t, more_t, value_tree, rest_tree, value_ends}
 use Rattle.grammar.specs.declared.Op.{Op}
@@ -17,9 +17,8 @@ use Rattle.grammar.specs.declared.Func.{Func}
 use Rattle.rules.specs.Meaning.{number_of}
 use Rattle.rules.specs.declared.Worked.{Worked}
 use Rattle.reader.specs.Places.{valued, opening, following, spelt_to}
-use Rattle.reader.specs.Passage.{value_e, rest_e, shut, due, onward, left, Onto, StepOf}
+use Rattle.reader.specs.Passage.{value_e, rest_e, shut, due, onward, Onto, StepOf}
 use Rattle.reader.specs.declared.values.Valued.TheVariants.{To as Came, Wrong}
-use Rattle.reader.specs.declared.spelling.Spelt.{Spelt}
 use Rattle.reader.specs.declared.spelling.Spelt.TheVariants.{To, Not}
 use Rattle.reader.specs.declared.spelling.Opening.TheVariants.{Parameter, Bracket, Function, Wrong as NoOpening}
 use Rattle.reader.specs.declared.spelling.Following.TheVariants.{Close, Operator, Wrong as NoFollowing}

@@ -12,7 +12,7 @@ use lib.ListN.{length, drop, get_or, length-drop, drop_of_length-le}
 use lib.Seq.{drop-cons}
 use Rattle.grammar.proofs.Read.{Read, fail, got, eat, map_r, Head, call, Tail, oper, head_by, tail_by, read_f, opens_number, numeric}
 use Rattle.grammar.proofs.OnePass.{eat_map}
-use Rattle.grammar.proofs.Place.{wrong, found, place, head_p, tail_p}
+use Rattle.grammar.proofs.Place.{found, place, head_p, tail_p}
 use Rattle.grammar.specs.declared.Op.{Op}
 use Rattle.grammar.specs.declared.Func.{Func}
 use Rattle.reader.specs.Pass.{pass}

@@ -1,11 +1,10 @@
 -- Form alone, by places: the place past a value, and past the rest of an expression, or the first wrong place. What is left to come at a place is said by
 -- the number of open brackets and by whether a value is due or done.
 -- Assumes nothing.
-use Rattle.std.specs.Prelude.{◌≡◌, Bool, true, false, cond, List, ℕ, zero, suc, ◌+◌, ◌-◌, ◌*◌, ◌≤◌, ◌<◌, length}
-use Rattle.grammar.proofs.Place.{Placed, wrong, found, bind_p, map_p}
+use Rattle.std.specs.Prelude.{◌≡◌, cond, List, ℕ, zero, suc, ◌+◌, ◌-◌, ◌*◌, ◌≤◌, ◌<◌, length}
+use Rattle.grammar.proofs.Place.{Placed, found, bind_p, map_p}
 use Rattle.grammar.proofs.Trees.{value_t, rest_t}
 use Rattle.reader.specs.Places.{spelt_to}
-use Rattle.reader.specs.declared.spelling.Spelt.{Spelt}
 use Rattle.reader.specs.declared.passage.Way.{Way}
 use Rattle.reader.specs.declared.passage.Step.{Step}
 use Rattle.reader.specs.declared.passage.Step.TheVariants.{On, End}

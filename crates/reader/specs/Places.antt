@@ -1,6 +1,6 @@
 -- What the functions that read answer, from what the grammar's reader by places says. No public contract cites it.
 -- Assumes nothing.
-use Rattle.std.specs.Prelude.{◌≡◌, Bool, false, cond, List, [], ◌∷◌, ℕ, ◌+◌, ◌-◌, ◌*◌, ◌≤◌, min, eqb, length, drop}
+use Rattle.std.specs.Prelude.{◌≡◌, Bool, false, List, [], ◌∷◌, ℕ, ◌+◌, ◌-◌, ◌*◌, ◌≤◌, min, eqb, length, drop}
 use Rattle.grammar.specs.Bytes.{byte}
 use Rattle.grammar.specs.Grammar.{digit, remark, Sign}
 use Rattle.grammar.proofs.Read.{got, read_sign, take_while, Head, hash, bare, call, Tail, close, oper}

@@ -13,15 +13,14 @@ use lib.IntN.{ℤ, pos}
 use borrow.Author.Tests.{le-ltb, eqb-false}
 use Rattle.laws.proofs.Bools.{and_left, and_right, T-eq}
 use Rattle.grammar.specs.Bytes.{byte, bytes, among}
-use Rattle.grammar.specs.Grammar.{Value, Item, word, setting, comment, Stroke, Mark, unmarked, plain, conditional, Label, Line, line}
+use Rattle.grammar.specs.Grammar.{Value, Item, word, setting, comment, Mark, unmarked, plain, conditional, Label, Line, line}
 use Rattle.grammar.specs.Derivation.{Derives, derived}
 use Rattle.grammar.specs.Rearranged.{words_of, settings_of, Shuffled, none, place, Rearranged, Reordered, rearranged}
 use Rattle.grammar.specs.Work.{item_work, items_work, mark_work, item_depth, items_depth, mark_depth}
 use Rattle.grammar.specs.Working.{Step, skip, give, stop, Took, end, stopped, took, after, value, expression, step_of, entries, mark_step, line_entries, Contents, contents}
-use Rattle.rules.specs.Meaning.{Entry, word_is, setting_is, arithmetic, word_of, setting_at, setting_of, runs, condition_of, parameter_of, stopped_by, meets, Said, Setting, words, settings}
+use Rattle.rules.specs.Meaning.{Entry, word_is, setting_is, arithmetic, word_of, setting_at, setting_of, runs, condition_of, parameter_of, stopped_by, meets, Said, words, settings}
 use Rattle.rules.specs.Codes.{g_group, m_group, g_code, m_code, group_of}
 use Rattle.rules.specs.Block.{block_of, codes, g_codes, m_codes, other_letters, twice, sets_origin, sets_offset}
-use Rattle.rules.specs.Steps.{ready}
 use Rattle.rules.specs.Refusals.{Case, ◌when◌, first, g_groups_of, m_groups_of, unserved, doubled, moving_code}
 use Rattle.rules.specs.Promise.{After, Right, answer_to, numbers, number_of, unread}
 use Rattle.rules.specs.declared.Block.{Block}

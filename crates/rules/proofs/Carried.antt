@@ -2,9 +2,9 @@
 -- 0, by `count_of`; record, table and output are new and the work is reported where it is 0, and otherwise they are as they were and the work is 0; the place is told where the number is 3, and
 -- otherwise it is 0. `uncarried`: those sentences say no less than the promise.
 -- Assumes nothing.
-use mathlib.Core.Path.{◌≡◌, refl, ap, ◌∙◌, sym, subst}
+use mathlib.Core.Path.{◌≡◌, refl, ◌∙◌, sym, subst}
 use mathlib.Core.Bool.{Bool, true, false, cond}
-use mathlib.Core.List.{List, []}
+use mathlib.Core.List.{List}
 use Prim.Native.Nat.{ℕ}
 use native.Mathlib.Omega.{arith}
 use lib.Dec.{T, eqb, eqb→eq}

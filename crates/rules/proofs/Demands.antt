@@ -33,8 +33,6 @@ use Rattle.rules.specs.Refusals.{Case, ◌when◌, first, refusals}
 use Rattle.rules.specs.Promise.{After, Right, answer, answer_to, leaving, misformed, accepted, by_number, numbers, underived, place_in, taken, answer_of, number_of, count_of, disorder, unread, too_deep}
 use Rattle.rules.specs.declared.Block.{Block}
 use Rattle.rules.specs.declared.Record.{Record}
-use Rattle.rules.specs.declared.Answer.{Answer}
-use Rattle.rules.specs.declared.Answer.TheVariants.{Accepted, Refused, Skipped}
 use Rattle.rules.proofs.Answers.{number_of_holds, count_of_holds}
 
 -- nothing is changed: "returns count 0 and leaves record, table and output unchanged"; "others report 0"

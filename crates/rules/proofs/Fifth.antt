@@ -9,7 +9,7 @@ use native.Mathlib.Omega.{arith}
 use lib.Dec.{ltb}
 use lib.IntN.{pos}
 use borrow.Author.Tests.{ltb-true, ltb-false}
-use Rattle.rules.specs.Numbers.{signed, differ, nearest}
+use Rattle.rules.specs.Numbers.{signed, nearest}
 use Rattle.rules.specs.Meaning.{ranged, written}
 use Rattle.rules.proofs.Nearest.{nearest_by}
 

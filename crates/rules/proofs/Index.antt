@@ -4,18 +4,16 @@
 use mathlib.Core.Path.{◌≡◌, refl, ap, ◌∙◌, sym, subst}
 use mathlib.Core.Bool.{Bool, true, false, cond, not, ◌&&◌, ◌||◌}
 use mathlib.Core.List.{List, [], ◌∷◌, ◌++◌, map}
-use mathlib.Core.Logic.{◌↔◌}
 use Prim.Native.Nat.{ℕ, zero, suc, ◌+◌, ◌-◌, ◌*◌, ◌≤◌, ◌<◌}
 use native.Mathlib.Omega.{arith}
 use lib.ListN.{length, set, get_or-eq_default}
 use lib.Seq.{set_out}
 use lib.Dec.{T, eqb, leb, eqb→eq, eqb_refl, T_not, leb→le}
 use lib.IntN.{ℤ, pos, negsuc, nat_abs, ◌-ℤ◌, ◌*ℤ◌}
-use borrow.Author.Tests.{le-leb, leb-true, leb-false}
-use Rattle.laws.proofs.Bools.{and_left, and_right, T-eq, not_eq}
-use Rattle.laws.proofs.Ints.{abs_is, diff_is}
+use borrow.Author.Tests.{le-leb, leb-true}
+use Rattle.laws.proofs.Bools.{and_left, and_right, T-eq}
 use Rattle.grammar.specs.Bytes.{among, all}
-use Rattle.rules.specs.Numbers.{nearest, near, within, between, counted}
+use Rattle.rules.specs.Numbers.{nearest, near, within, between}
 use Rattle.rules.specs.Codes.{Group, ◌holds◌, not_served, listed_in, systems, g_groups, m_groups, g_group, m_group, no_code, code_up_to, g_code, m_code, further, place_in, system_number}
 use Rattle.rules.specs.Block.{twice}
 use Rattle.rules.specs.Reach.{nowhere, at}

@@ -1,14 +1,14 @@
 -- The rounding fact, once for any divisor d that is not 0: the whole number nearest to n / d, and of two equally near the one further from zero, is `nearest n d`
 -- (`nearest-meets`) and no other (`nearest-is`), so that two are equal (`nearest-one`). `*`, `/`, ROUND, whole numbers and tenths all rest on it.
 -- Assumes nothing.
-use mathlib.Core.Path.{◌≡◌, refl, sym, ap, ◌∙◌, subst}
+use mathlib.Core.Path.{◌≡◌, refl, sym, ap, ◌∙◌}
 use mathlib.Core.Bool.{Bool, true, false}
 use mathlib.Core.Logic.{◌⊎◌, inl, inr, ⊎_elim}
-use Prim.Native.Nat.{ℕ, zero, suc, ◌+◌, ◌-◌, ◌*◌, ◌/◌, ◌%◌, ◌≤◌, ◌<◌}
+use Prim.Native.Nat.{ℕ, zero, suc, ◌+◌, ◌-◌, ◌*◌, ◌/◌, ◌≤◌, ◌<◌}
 use native.Mathlib.Omega.{arith}
 use native.Mathlib.Nat as N
-use lib.IntN.{ℤ, pos, negsuc, neg_ℤ, nat_abs, neg_ℤ-+ℤ, ◌+ℤ◌, ◌-ℤ◌, ◌*ℤ◌}
-use Rattle.laws.proofs.Ints.{up, dn, up_neg, dn_neg, sum_is, diff_is, abs_is, abs_parts, one_side, abs_neg, eq_parts, abs_product}
+use lib.IntN.{ℤ, pos, negsuc, neg_ℤ, nat_abs, neg_ℤ-+ℤ, ◌-ℤ◌, ◌*ℤ◌}
+use Rattle.laws.proofs.Ints.{up_neg, dn_neg, diff_is, abs_is, abs_parts, one_side, abs_neg, abs_product}
 use Rattle.rules.proofs.Signs.{abs_signed, signed_abs}
 use Rattle.rules.specs.Numbers.{minus, signed, differ, nearest}
 

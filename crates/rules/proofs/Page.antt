@@ -2,7 +2,7 @@
 -- each line is what its row says.
 -- Assumes nothing.
 use mathlib.Core.Path.{refl}
-use mathlib.Core.List.{List, [], ◌∷◌, ◌++◌}
+use mathlib.Core.List.{List, [], ◌∷◌}
 use lib.ListN.{set, replicate}
 use lib.IntN.{pos}
 use Rattle.grammar.specs.Derivation.{strip, inside}

@@ -3,17 +3,16 @@
 -- a unit above it; `rounded a` the one nearest to a, halves away from zero.
 -- Each has two laws: the definition meets the meaning (`-meets`), and whatever meets the meaning is the definition (`-is`), so that two are equal (`-one`).
 -- Assumes nothing.
-use mathlib.Core.Path.{◌≡◌, refl, sym, ap, ◌∙◌, subst}
-use mathlib.Core.Bool.{Bool, true, false}
+use mathlib.Core.Path.{◌≡◌, refl, sym, ap, ◌∙◌}
+use mathlib.Core.Bool.{true, false}
 use mathlib.Core.Logic.{◌⊎◌, inl, inr, ⊎_elim}
-use Prim.Native.Nat.{ℕ, zero, suc, ◌+◌, ◌-◌, ◌*◌, ◌/◌, ◌%◌, ◌≤◌, ◌<◌}
+use Prim.Native.Nat.{ℕ, zero, suc, ◌+◌, ◌-◌, ◌*◌, ◌/◌, ◌%◌, ◌<◌}
 use native.Mathlib.Omega.{arith}
 use native.Mathlib.Nat as N
 use lib.IntN.{ℤ, pos, negsuc, neg_ℤ, nat_abs, neg_ℤ-neg_ℤ, ◌+ℤ◌, ◌-ℤ◌, ◌*ℤ◌}
 use lib.Signed.{◌≤ℤ◌, ◌<ℤ◌}
-use Rattle.laws.proofs.Ints.{up, dn, up_neg, dn_neg, sum_is, diff_is, abs_is, abs_parts, one_side, eq_parts, parts_eq, parts_≤, parts_<, ≤_parts, <_parts, abs_product, up_product, dn_product}
-use Rattle.rules.proofs.Signs.{signed_abs}
-use Rattle.rules.specs.Numbers.{minus, signed, differ, residue, residue_size, nearest, down, upward, rounded}
+use Rattle.laws.proofs.Ints.{up, dn, up_neg, dn_neg, sum_is, diff_is, abs_is, abs_parts, eq_parts, parts_eq, parts_≤, parts_<, ≤_parts, <_parts, abs_product, up_product, dn_product}
+use Rattle.rules.specs.Numbers.{minus, signed, differ, residue, nearest, down, upward, rounded}
 use Rattle.rules.proofs.Nearest.{Nearest, nearest_is, nearest_meets, signed_times}
 
 -- "MOD lies from 0 to below the divisor's size and differs from the dividend by a whole number of divisors"

@@ -9,8 +9,8 @@ use Prim.Native.Nat.{ℕ, ◌≤◌}
 use native.Mathlib.Omega.{arith}
 use lib.Dec.{eqb}
 use lib.IntN.{ℤ, nat_abs}
-use Rattle.grammar.specs.Grammar.{Number, num, Value, number, parameter, applied, grouped, Expr, expr, Rest, done, more, Item, word, setting, comment, Stroke, Mark, unmarked, plain, conditional, Line, line}
-use Rattle.grammar.specs.Working.{Pair, pair, Step, skip, stop, Took, end, stopped, took, after, terms, total, in_order, value, expression, pairs, entries, line_entries, high}
+use Rattle.grammar.specs.Grammar.{Number, num, Value, number, parameter, applied, grouped, Expr, expr, Rest, done, more, Item, word, setting, comment, Stroke, unmarked, plain, conditional, Line, line}
+use Rattle.grammar.specs.Working.{Pair, pair, skip, stop, Took, end, stopped, took, after, terms, total, in_order, value, expression, pairs, entries, line_entries, high}
 use Rattle.grammar.specs.declared.Op.{Op}
 use Rattle.grammar.specs.declared.Op.TheVariants.{Add, Sub, Mul, Div, Mod, And, Or, Xor}
 use Rattle.grammar.specs.declared.Func.{Func}

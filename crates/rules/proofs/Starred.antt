@@ -1,7 +1,7 @@
 -- The starred cases of document 01, "Either side of each line", as one table. `starred`: whatever the promise allows for each line is what its row says.
 -- Assumes nothing.
 use mathlib.Core.Path.{◌≡◌, refl, ap}
-use mathlib.Core.List.{List, [], ◌∷◌, ◌++◌, map}
+use mathlib.Core.List.{List, [], ◌∷◌, map}
 use Prim.Native.Nat.{ℕ}
 use lib.ListN.{set}
 use lib.IntN.{pos}

@@ -1,6 +1,6 @@
 -- Arcs: centre and radii.
 -- Assumes nothing.
-use Rattle.std.specs.Prelude.{Bool, true, false, cond, ◌&&◌, ◌||◌, List, [], ◌∷◌, map, ℕ, ◌+◌, ◌-◌, ◌*◌, eqb, ltb, ℤ, pos, nat_abs}
+use Rattle.std.specs.Prelude.{Bool, cond, ◌&&◌, ◌||◌, List, [], ◌∷◌, map, ℕ, ◌+◌, ◌-◌, ◌*◌, eqb, ltb, ℤ, nat_abs}
 use Rattle.grammar.specs.Bytes.{among}
 use Rattle.rules.specs.Block.{offset, moves}
 use Rattle.rules.specs.Reach.{◌plus◌, ◌less◌, at}

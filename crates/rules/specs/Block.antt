@@ -1,10 +1,9 @@
 -- The summary of a line: its words by letter and its codes by group, in whatever order they stand.
 -- Assumes nothing.
-use Rattle.std.specs.Prelude.{Bool, true, false, cond, not, ◌||◌, ◌&&◌, List, [], ◌∷◌, map, ℕ, eqb, get_or, ℤ, pos}
+use Rattle.std.specs.Prelude.{Bool, true, false, cond, not, ◌||◌, ◌&&◌, List, [], ◌∷◌, ℕ, eqb, get_or, ℤ, pos}
 use Rattle.grammar.specs.Bytes.{byte, bytes, among}
 use Rattle.rules.specs.Meaning.{Said}
 use Rattle.rules.specs.Codes.{g_group, m_group, g_code, m_code, no_code, group_of}
-use Rattle.rules.specs.declared.Value.{Value}
 use Rattle.rules.specs.declared.Word.{Word}
 use Rattle.rules.specs.declared.Code.{Code}
 use Rattle.rules.specs.declared.Block.{Block}

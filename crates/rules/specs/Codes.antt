@@ -1,6 +1,6 @@
 -- The codes served, by modal group as document 01 lists them. G codes are held as ten times the code.
 -- Assumes nothing.
-use Rattle.std.specs.Prelude.{Bool, true, false, cond, List, [], ◌∷◌, ℕ, zero, suc, eqb, ℤ}
+use Rattle.std.specs.Prelude.{true, false, cond, List, [], ◌∷◌, ℕ, zero, suc, eqb, ℤ}
 use Rattle.grammar.specs.Bytes.{among}
 use Rattle.rules.specs.Numbers.{whole, tenth, between, counted}
 use Rattle.rules.specs.declared.Near.{Near}

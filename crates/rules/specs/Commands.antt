@@ -1,10 +1,9 @@
 -- The commands of an accepted line, as a list.
 -- Assumes nothing.
-use Rattle.std.specs.Prelude.{Bool, true, false, cond, List, [], ◌∷◌, ◌++◌, map, ℕ, zero, suc, ◌/◌, eqb, ℤ, pos}
+use Rattle.std.specs.Prelude.{Bool, cond, List, [], ◌∷◌, ◌++◌, map, ℕ, zero, suc, ◌/◌, eqb, ℤ, pos}
 use Rattle.rules.specs.Block.{dwells, moves}
 use Rattle.rules.specs.Steps.{spindle_of, coolant_of, target, motion_of}
 use Rattle.rules.specs.Arcs.{arc_move, centre}
-use Rattle.rules.specs.declared.Value.{Value}
 use Rattle.rules.specs.declared.Length.{Length}
 use Rattle.rules.specs.declared.Command.{Command}
 use Rattle.rules.specs.declared.Block.{Block}

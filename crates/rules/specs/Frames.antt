@@ -1,11 +1,11 @@
 -- Frames out: what the program writes for the bytes that it reads.
 -- Assumes nothing.
-use Rattle.std.specs.Prelude.{◌≡◌, Bool, true, false, cond, List, [], ◌∷◌, ◌++◌, ℕ, zero, suc, ◌+◌, ◌-◌, ◌/◌, ◌%◌, eqb, ltb, take, drop, replicate, get_or, ℤ, pos, negsuc}
+use Rattle.std.specs.Prelude.{◌≡◌, false, cond, List, [], ◌∷◌, ◌++◌, ℕ, zero, suc, ◌+◌, ◌-◌, ◌/◌, ◌%◌, eqb, ltb, take, drop, replicate, get_or, ℤ, pos, negsuc}
 use Rattle.grammar.specs.Bytes.{byte, bytes, among}
 use Rattle.grammar.specs.Grammar.{Line}
 use Rattle.grammar.specs.Derivation.{Form, ByForm}
 use Rattle.rules.specs.Reach.{fresh}
-use Rattle.rules.specs.Promise.{After, answer, number_of, count_of}
+use Rattle.rules.specs.Promise.{After, answer}
 use Rattle.rules.specs.declared.Record.{Record}
 use Rattle.rules.specs.declared.Answer.{Answer}
 use Rattle.rules.specs.declared.Answer.TheVariants.{Accepted, Refused, Skipped}

@@ -2,7 +2,7 @@
 -- Assumes nothing.
 use Rattle.std.specs.Prelude.{Bool, true, false, cond, not, ◌&&◌, ◌||◌, List, [], ◌∷◌, ◌++◌, ℕ, ◌+◌, ◌-◌, ◌*◌, ◌^◌, eqb, length, get_or, ℤ, pos, nat_abs, ◌+ℤ◌, ◌-ℤ◌, ◌*ℤ◌}
 use Rattle.grammar.specs.Bytes.{byte}
-use Rattle.grammar.specs.Grammar.{Sign, unsigned, plus, minus, Fraction, Number, num, fraction_digits, Stroke, slash, backslash, Line}
+use Rattle.grammar.specs.Grammar.{Sign, unsigned, plus, minus, Number, num, fraction_digits, Stroke, slash, backslash, Line}
 use Rattle.grammar.specs.Derivation.{Form}
 use Rattle.grammar.specs.Working.{Arithmetic, Step, skip, give, stop, Took, end, stopped, took, Contents, contents_of}
 use Rattle.grammar.specs.declared.Op.{Op}
@@ -10,7 +10,6 @@ use Rattle.grammar.specs.declared.Op.TheVariants.{Add, Sub, Mul, Div, Mod, And, 
 use Rattle.grammar.specs.declared.Func.{Func}
 use Rattle.grammar.specs.declared.Func.TheVariants.{Abs, Fix, Fup, Round}
 use Rattle.rules.specs.Numbers.{signed, within, in_range, nearest, residue, down, upward, rounded, is_true, truth, whole, between, counted, differ}
-use Rattle.rules.specs.declared.Value.{Value}
 use Rattle.rules.specs.declared.Worked.{Worked}
 use Rattle.rules.specs.declared.Worked.TheVariants.{Good, Bad}
 use Rattle.rules.specs.declared.Parameter.{Parameter}

@@ -1,7 +1,7 @@
 -- Lengths, reach, and a record in order.
 -- Assumes nothing.
-use Rattle.std.specs.Prelude.{Bool, true, false, cond, ◌&&◌, List, [], ◌∷◌, map, ℕ, ◌*◌, eqb, leb, length, get_or, replicate, ℤ, pos, negsuc, nat_abs, ◌+ℤ◌, ◌-ℤ◌, ◌*ℤ◌}
-use Rattle.rules.specs.Numbers.{within, minus}
+use Rattle.std.specs.Prelude.{Bool, true, false, cond, ◌&&◌, List, [], ◌∷◌, ℕ, ◌*◌, eqb, leb, length, get_or, replicate, ℤ, pos, negsuc, ◌+ℤ◌, ◌-ℤ◌, ◌*ℤ◌}
+use Rattle.rules.specs.Numbers.{within}
 use Rattle.rules.specs.Codes.{g_group, systems}
 use Rattle.rules.specs.Block.{all_axes}
 use Rattle.rules.specs.declared.Value.{Value}

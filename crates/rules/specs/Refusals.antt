@@ -1,6 +1,6 @@
 -- The numbers 8 to 15, in their order.
 -- Assumes nothing.
-use Rattle.std.specs.Prelude.{Bool, true, false, cond, not, ◌&&◌, ◌||◌, List, [], ◌∷◌, ◌++◌, map, ℕ, ◌*◌, eqb, ltb, length, ℤ, pos, nat_abs}
+use Rattle.std.specs.Prelude.{Bool, cond, not, ◌&&◌, ◌||◌, List, [], ◌∷◌, map, ℕ, ◌*◌, eqb, ltb, length, nat_abs}
 use Rattle.grammar.specs.Bytes.{among}
 use Rattle.rules.specs.Numbers.{minus, whole, between}
 use Rattle.rules.specs.Meaning.{Said}

@@ -1,15 +1,13 @@
 -- What each word and code of a line does to the record, step by step in the order of document 01.
 -- Assumes nothing.
-use Rattle.std.specs.Prelude.{Bool, true, false, cond, ◌&&◌, ◌||◌, List, [], ◌∷◌, map, ℕ, zero, suc, ◌+◌, ◌*◌, eqb, length, set, ℤ, pos}
+use Rattle.std.specs.Prelude.{Bool, cond, ◌||◌, List, [], ◌∷◌, map, ℕ, zero, suc, ◌+◌, ◌*◌, eqb, length, set}
 use Rattle.rules.specs.Numbers.{whole, counted}
 use Rattle.rules.specs.Codes.{systems, system_number}
-use Rattle.rules.specs.Block.{axis, all_axes, has, has_one, or_else, moves, sets_origin, machine, sets_offset, zeroes_offset}
+use Rattle.rules.specs.Block.{axis, all_axes, has_one, or_else, moves, sets_origin, machine, sets_offset, zeroes_offset}
 use Rattle.rules.specs.Reach.{converted, ◌plus◌, ◌less◌, nowhere, at}
 use Rattle.rules.specs.With.{with_position, with_origins, with_offset, with_motion, with_plane, with_distance, with_units, with_system, with_feed, with_speed, with_tool, with_spindle, with_coolant}
-use Rattle.rules.specs.declared.Value.{Value}
 use Rattle.rules.specs.declared.Length.{Length}
 use Rattle.rules.specs.declared.Word.{Word}
-use Rattle.rules.specs.declared.Code.{Code}
 use Rattle.rules.specs.declared.Block.{Block}
 use Rattle.rules.specs.declared.Record.{Record}
 

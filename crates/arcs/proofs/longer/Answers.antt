@@ -2,7 +2,6 @@
 -- Assumes nothing.
 use mathlib.Core.Path.{sym, ◌∙◌}
 use native.Mathlib.Omega.{arith}
-use borrow.Author.Rules.{rules}
 use Rattle.rules.proofs.Radii.{close}
 use Rattle.arcs.proofs.Parts.{slack_small, by_products}
 use Rattle.arcs.proofs.longer.Goals as goal

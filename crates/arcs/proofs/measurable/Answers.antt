@@ -2,7 +2,6 @@
 -- Assumes nothing.
 use mathlib.Core.Bool.{and-true}
 use mathlib.Core.Path.{refl, sym, ◌∙◌}
-use borrow.Author.Tests.{not-true, not-false}
 use borrow.Author.Rules.{rules}
 use Rattle.arcs.proofs.Ways.{measurable_pair}
 use Rattle.arcs.proofs.measurable.Goals as goal

@@ -1,7 +1,6 @@
 -- `arcs::product` meets its contract.
 -- Assumes nothing.
 use native.Mathlib.Omega.{arith}
-use borrow.Author.Rules.{rules}
 use Rattle.arcs.proofs.Parts.{low_fits, middle_fits, upper_fits, carried_fits, high_fits, product_is}
 use Rattle.arcs.proofs.product.Goals as goal
 

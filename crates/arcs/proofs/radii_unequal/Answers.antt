@@ -1,8 +1,6 @@
 -- `arcs::radii_unequal` meets its contract.
 -- Assumes nothing.
 use mathlib.Core.Path.{refl, sym, ◌∙◌}
-use borrow.Author.Tests.{not-true, not-false}
-use borrow.Author.Rules.{rules}
 use Rattle.arcs.specs.Ways.{too_unequal}
 use Rattle.arcs.proofs.radii_unequal.Goals as goal
 

@@ -3,7 +3,6 @@
 use mathlib.Core.Path.{ap}
 use Prim.Native.Nat.{ℕ, ◌*◌}
 use native.Mathlib.Omega.{arith}
-use borrow.Author.Rules.{rules}
 use Rattle.arcs.proofs.Ways.{square_small}
 use Rattle.arcs.proofs.square.Goals as goal
 

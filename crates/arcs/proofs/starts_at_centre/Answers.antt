@@ -3,7 +3,6 @@
 use mathlib.Core.Path.{refl, sym, ◌∙◌}
 use lib.IntN.{nat_abs}
 use lib.ListN.{get_or}
-use borrow.Author.Tests.{not-true, not-false}
 use borrow.Author.Rules.{rules}
 use Rattle.rules.specs.Reach.{nowhere}
 use Rattle.arcs.proofs.Ways.{summed_pair, some_way, no_way}

@@ -1,7 +1,6 @@
 -- `arcs::unequal` meets its contract.
 -- Assumes nothing.
 use mathlib.Core.Path.{◌∙◌}
-use borrow.Author.Rules.{rules}
 use Rattle.rules.proofs.Radii.{same_way}
 use Rattle.arcs.proofs.unequal.Goals as goal
 

@@ -2,7 +2,6 @@
 -- Assumes nothing.
 use mathlib.Core.Path.{sym, ◌∙◌}
 use Rattle.arithmetic.proofs.Kept.{good_kept}
-use borrow.Author.Rules.{rules}
 use Rattle.arithmetic.proofs.apply.Goals as goal
 
 pub function-requires : goal.function-requires

@@ -1,7 +1,6 @@
 -- `arithmetic::checked` meets its contract: a value passes if it is in range, a refusal as it is.
 -- Assumes nothing.
 use mathlib.Core.Path.{◌∙◌}
-use borrow.Author.Rules.{rules}
 use Rattle.arithmetic.proofs.checked.Goals as goal
 
 pub returns-in-Good : goal.returns-in-Good

@@ -1,7 +1,6 @@
 -- `arithmetic::entry` meets its contract: the entry of a number, or number 7.
 -- Assumes nothing.
 use mathlib.Core.Path.{◌∙◌}
-use borrow.Author.Rules.{rules}
 use Rattle.arithmetic.proofs.entry.Goals as goal
 
 pub returns-in-Number : goal.returns-in-Number

@@ -5,7 +5,6 @@ use Rattle.laws.proofs.Ints.{back}
 use lib.ListN.{get_or, get_or-eq_default}
 use lib.IntN.{pos}
 use mathlib.Core.Path.{◌∙◌}
-use borrow.Author.Rules.{rules}
 use Rattle.arithmetic.proofs.entry_at.Goals as goal
 
 pub returns-then-number-table : goal.returns-then-number-table

@@ -1,7 +1,6 @@
 -- `arithmetic::lookup` meets its contract: the entry of the parameter that a value in range names.
 -- Assumes nothing.
 use mathlib.Core.Path.{sym, ◌∙◌}
-use borrow.Author.Rules.{rules}
 use Rattle.arithmetic.proofs.lookup.Goals as goal
 
 pub returns-in-Good : goal.returns-in-Good

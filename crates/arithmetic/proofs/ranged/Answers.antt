@@ -2,7 +2,6 @@
 -- Assumes nothing.
 use mathlib.Core.Path.{sym, ◌∙◌}
 use Rattle.rules.specs.Meaning.{ranged}
-use borrow.Author.Rules.{rules}
 use Rattle.arithmetic.proofs.ranged.Goals as goal
 
 pub returns-then-in_range : goal.returns-then-in_range

@@ -2,7 +2,6 @@
 -- Assumes nothing.
 use Rattle.laws.proofs.Ints.{back}
 use mathlib.Core.Path.{◌∙◌}
-use borrow.Author.Rules.{rules}
 use Rattle.arithmetic.proofs.size.Goals as goal
 
 pub returns : goal.returns

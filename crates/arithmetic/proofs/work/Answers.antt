@@ -1,9 +1,6 @@
 -- `arithmetic::work` meets its contract: both sides passed the guard, so they are in range, as `operation` asks; the left side is looked at first.
 -- Assumes nothing.
-use borrow.Author.Rules.{rules}
-use mathlib.Core.Path.{◌≡◌, sym, ◌∙◌}
-use Rattle.rules.specs.declared.Worked.TheVariants.{Good}
-use Rattle.arithmetic.specs.Guarded.{kept}
+use mathlib.Core.Path.{sym, ◌∙◌}
 use Rattle.arithmetic.proofs.Kept.{good_kept}
 use Rattle.arithmetic.proofs.work.Goals as goal
 

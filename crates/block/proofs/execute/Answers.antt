@@ -1,13 +1,11 @@
 -- `block::execute` meets its contract: the numbers in their order.
 -- Assumes nothing.
 use mathlib.Core.Path.{◌≡◌, sym, ap, ◌∙◌}
-use mathlib.Core.Bool.{Bool, true, false}
+use mathlib.Core.Bool.{true}
 use mathlib.Core.List.{List}
 use Prim.Native.Nat.{ℕ}
 use lib.IntN.{ℤ}
 use lib.ListN.{take}
-use borrow.Author.Rules.{rules}
-use borrow.Author.Tests.{not-true, not-false}
 use Rattle.rules.specs.Meaning.{Said}
 use Rattle.rules.specs.Block.{block_of}
 use Rattle.rules.specs.Reach.{in_order}

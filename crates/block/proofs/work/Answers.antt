@@ -1,14 +1,12 @@
 -- `block::work` meets its contract: numbers 10 and 11, then 12 to 14, then 15, and what an accepted line leaves.
 -- Assumes nothing.
-use mathlib.Core.Path.{◌≡◌, refl, sym, ap, ◌∙◌}
-use mathlib.Core.Bool.{Bool, true, false, cond}
+use mathlib.Core.Path.{◌≡◌, sym, ap, ◌∙◌}
+use mathlib.Core.Bool.{Bool, cond}
 use mathlib.Core.List.{List}
-use Prim.Native.Nat.{ℕ, ◌*◌}
+use Prim.Native.Nat.{◌*◌}
 use native.Mathlib.Omega.{arith}
 use lib.Dec.{ltb}
-use lib.IntN.{ℤ}
 use lib.ListN.{length}
-use borrow.Author.Rules.{rules}
 use borrow.Author.Tests.{ltb-true, ltb-false}
 use Rattle.rules.specs.Steps.{ready, left}
 use Rattle.rules.specs.Commands.{commands, written}
@@ -32,7 +30,7 @@ use Rattle.block.proofs.work.Goals as goal
 pub returns-then-number-ne0 : goal.returns-then-number-ne0
 returns-then-number-ne0 c =
     let readied : Record = ready c.args.b c.args.rec in
-    let early_is : first (early c.args.b readied) ≡ c.early-number.result =      ap first (early_ready c.args.b c.args.rec) ∙ sym (rw c.or_else.ensures at c.early-number.ensures) in
+    let early_is : first (early c.args.b readied) ≡ c.early-number.result = ap first (early_ready c.args.b c.args.rec) ∙ sym (rw c.or_else.ensures at c.early-number.ensures) in
     rw c.refused.ensures
     (refused_by c.args.b c.args.rec c.args.out.now c.early-number.result
     (by_early c.args.b readied (length c.args.out.now) c.early-number.result early_is c.if-number-ne0.true) c.if-number-ne0.true)
@@ -40,7 +38,7 @@ returns-then-number-ne0 c =
 pub ready-m-requires : goal.ready-m-requires
 ready-m-requires c =
     let readied : Record = ready c.args.b c.args.rec in
-    let early_is : first (early c.args.b readied) ≡ c.early-number.result =      ap first (early_ready c.args.b c.args.rec) ∙ sym (rw c.or_else.ensures at c.early-number.ensures) in
+    let early_is : first (early c.args.b readied) ≡ c.early-number.result = ap first (early_ready c.args.b c.args.rec) ∙ sym (rw c.or_else.ensures at c.early-number.ensures) in
     let no_early : first (early c.args.b readied) ≡ 0 = early_is ∙ c.if-number-ne0.false in
     let line_numbered : Numbered c.args.b = early_numbered c.args.b readied no_early in
     record { ranged = c.requires.ranged; small = small c.args.rec c.requires.rec_value; numbered = line_numbered }
@@ -48,7 +46,7 @@ ready-m-requires c =
 pub late-number-requires : goal.late-number-requires
 late-number-requires c =
     let readied : Record = ready c.args.b c.args.rec in
-    let early_is : first (early c.args.b readied) ≡ c.early-number.result =      ap first (early_ready c.args.b c.args.rec) ∙ sym (rw c.or_else.ensures at c.early-number.ensures) in
+    let early_is : first (early c.args.b readied) ≡ c.early-number.result = ap first (early_ready c.args.b c.args.rec) ∙ sym (rw c.or_else.ensures at c.early-number.ensures) in
     let no_early : first (early c.args.b readied) ≡ 0 = early_is ∙ c.if-number-ne0.false in
     let line_numbered : Numbered c.args.b = early_numbered c.args.b readied no_early in
     record { numbered = line_numbered; position_value = rw c.ready-m.ensures (ready_reached c.args.b c.args.rec c.requires.rec_value); t_value = c.travel_of-t.ensures }
@@ -56,9 +54,9 @@ late-number-requires c =
 pub returns-then-number-ne0-2 : goal.returns-then-number-ne0-2
 returns-then-number-ne0-2 c =
     let readied : Record = ready c.args.b c.args.rec in
-    let early_is : first (early c.args.b readied) ≡ c.early-number.result =      ap first (early_ready c.args.b c.args.rec) ∙ sym (rw c.or_else.ensures at c.early-number.ensures) in
+    let early_is : first (early c.args.b readied) ≡ c.early-number.result = ap first (early_ready c.args.b c.args.rec) ∙ sym (rw c.or_else.ensures at c.early-number.ensures) in
     let no_early : first (early c.args.b readied) ≡ 0 = early_is ∙ c.if-number-ne0.false in
-    let late_is : first (late c.args.b readied) ≡ c.late-number.result =      ap (λ (q : Record). first (late c.args.b q)) (sym c.ready-m.ensures) ∙ sym c.late-number.ensures in
+    let late_is : first (late c.args.b readied) ≡ c.late-number.result = ap (λ (q : Record). first (late c.args.b q)) (sym c.ready-m.ensures) ∙ sym c.late-number.ensures in
     rw c.refused-then-number-ne0-2.ensures
     (refused_by c.args.b c.args.rec c.args.out.now c.late-number.result
     (by_late c.args.b readied (length c.args.out.now) no_early c.late-number.result late_is c.if-number-ne0-2.true) c.if-number-ne0-2.true)
@@ -71,16 +69,16 @@ pub returns-in-Commands : goal.returns-in-Commands
 unfolding left
 returns-in-Commands c =
     let readied : Record = ready c.args.b c.args.rec in
-    let early_is : first (early c.args.b readied) ≡ c.early-number.result =      ap first (early_ready c.args.b c.args.rec) ∙ sym (rw c.or_else.ensures at c.early-number.ensures) in
+    let early_is : first (early c.args.b readied) ≡ c.early-number.result = ap first (early_ready c.args.b c.args.rec) ∙ sym (rw c.or_else.ensures at c.early-number.ensures) in
     let no_early : first (early c.args.b readied) ≡ 0 = early_is ∙ c.if-number-ne0.false in
-    let late_is : first (late c.args.b readied) ≡ c.late-number.result =      ap (λ (q : Record). first (late c.args.b q)) (sym c.ready-m.ensures) ∙ sym c.late-number.ensures in
+    let late_is : first (late c.args.b readied) ≡ c.late-number.result = ap (λ (q : Record). first (late c.args.b q)) (sym c.ready-m.ensures) ∙ sym c.late-number.ensures in
     let no_late : first (late c.args.b readied) ≡ 0 = late_is ∙ c.if-number-ne0-2.false in
     let ready_is : c.ready-m.result ≡ readied = c.ready-m.ensures in
     let travel_is : c.travel_of-t.result ≡ travel_of c.args.b readied = c.travel_of-t.ensures ∙ ap (travel_of c.args.b) ready_is in
     let move_is : c.move_command.result ≡ move_by (travel_of c.args.b readied) readied.plane = c.move_command.ensures ∙ (λ i. move_by (travel_is i) (ready_is i).plane) in
     let orders_written : asked c.orders_of-orders.result ≡ commands c.args.b readied = ap asked c.orders_of-orders.ensures
-        ∙ (λ i. asked (orders_of c.args.b (ready_is i).feed (ready_is i).speed (ready_is i).tool (order (travel_is i).moving (move_is i))))
-        ∙ orders_are c.args.b readied in
+    ∙ (λ i. asked (orders_of c.args.b (ready_is i).feed (ready_is i).speed (ready_is i).tool (order (travel_is i).moving (move_is i))))
+    ∙ orders_are c.args.b readied in
     let cs = commands c.args.b readied in
     let room = length c.args.out.now in
     let fits = room_for cs room c.in-Commands.count (sym c.in-Commands.is ∙ c.write.ensures.0 ∙ ap (λ (os : List Command). written_by os room) orders_written) in
@@ -93,16 +91,16 @@ returns-in-Commands c =
 pub returns-in-NoRoom : goal.returns-in-NoRoom
 returns-in-NoRoom c =
     let readied : Record = ready c.args.b c.args.rec in
-    let early_is : first (early c.args.b readied) ≡ c.early-number.result =      ap first (early_ready c.args.b c.args.rec) ∙ sym (rw c.or_else.ensures at c.early-number.ensures) in
+    let early_is : first (early c.args.b readied) ≡ c.early-number.result = ap first (early_ready c.args.b c.args.rec) ∙ sym (rw c.or_else.ensures at c.early-number.ensures) in
     let no_early : first (early c.args.b readied) ≡ 0 = early_is ∙ c.if-number-ne0.false in
-    let late_is : first (late c.args.b readied) ≡ c.late-number.result =      ap (λ (q : Record). first (late c.args.b q)) (sym c.ready-m.ensures) ∙ sym c.late-number.ensures in
+    let late_is : first (late c.args.b readied) ≡ c.late-number.result = ap (λ (q : Record). first (late c.args.b q)) (sym c.ready-m.ensures) ∙ sym c.late-number.ensures in
     let no_late : first (late c.args.b readied) ≡ 0 = late_is ∙ c.if-number-ne0-2.false in
     let ready_is : c.ready-m.result ≡ readied = c.ready-m.ensures in
     let travel_is : c.travel_of-t.result ≡ travel_of c.args.b readied = c.travel_of-t.ensures ∙ ap (travel_of c.args.b) ready_is in
     let move_is : c.move_command.result ≡ move_by (travel_of c.args.b readied) readied.plane = c.move_command.ensures ∙ (λ i. move_by (travel_is i) (ready_is i).plane) in
     let orders_written : asked c.orders_of-orders.result ≡ commands c.args.b readied = ap asked c.orders_of-orders.ensures
-        ∙ (λ i. asked (orders_of c.args.b (ready_is i).feed (ready_is i).speed (ready_is i).tool (order (travel_is i).moving (move_is i))))
-        ∙ orders_are c.args.b readied in
+    ∙ (λ i. asked (orders_of c.args.b (ready_is i).feed (ready_is i).speed (ready_is i).tool (order (travel_is i).moving (move_is i))))
+    ∙ orders_are c.args.b readied in
     let cs = commands c.args.b readied in
     let room = length c.args.out.now in
     let short = no_room cs room (sym c.in-NoRoom.is ∙ c.write.ensures.0 ∙ ap (λ (os : List Command). written_by os room) orders_written) in

@@ -1,7 +1,6 @@
 -- `codes::m_code` meets its contract.
 -- Assumes nothing.
 use mathlib.Core.Path.{ap, ◌∙◌}
-use borrow.Author.Rules.{rules}
 use Rattle.rules.specs.Codes.{m_code, code_up_to}
 use Rattle.codes.proofs.m_code.Goals as goal
 

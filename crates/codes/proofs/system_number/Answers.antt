@@ -1,9 +1,6 @@
 -- `codes::system_number` meets its contract: each arm is the place of its code in the list of systems.
 -- Assumes nothing.
-use mathlib.Core.Path.{◌≡◌, refl}
-use mathlib.Core.Bool.{Bool, true, false, cond}
-use Prim.Native.Nat.{ℕ}
-use lib.Dec.{eqb}
+use mathlib.Core.Path.{refl}
 use borrow.Author.Tests.{ne_eqb}
 use Rattle.rules.specs.Codes.{system_number}
 use Rattle.codes.proofs.system_number.Goals as goal

@@ -1,7 +1,6 @@
 -- `control::answered` meets its contract.
 -- Assumes nothing.
 use mathlib.Core.Path.{sym, ◌∙◌}
-use borrow.Author.Rules.{rules}
 use Rattle.control.proofs.answered.Goals as goal
 
 pub returns-then-in_order : goal.returns-then-in_order

@@ -1,6 +1,5 @@
 -- `control::interpret` meets its contract: spaces of its own make no difference.
 -- Assumes nothing.
-use borrow.Author.Rules.{rules}
 use Rattle.control.proofs.interpret.Goals as goal
 
 pub returns : goal.returns

@@ -1,7 +1,6 @@
 -- `control::interpret_in` meets its contract: what is asked before the line is read, in its order.
 -- Assumes nothing.
 use native.Mathlib.Omega.{arith}
-use borrow.Author.Rules.{rules}
 use Rattle.reader.specs.Reading.{spaces}
 use Rattle.control.proofs.Keeping.{by_test, kept_table, kept_2, kept_skipped, lends_table, lends_long, lends_skipped}
 use Rattle.control.proofs.interpret_in.Goals as goal

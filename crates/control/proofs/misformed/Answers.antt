@@ -1,8 +1,6 @@
 -- `control::misformed` meets its contract.
 -- Assumes nothing.
 use mathlib.Core.Path.{sym, ◌∙◌}
-use borrow.Author.Rules.{rules}
-use borrow.Author.Tests.{not-true, not-false}
 use Rattle.control.proofs.misformed.Goals as goal
 
 pub returns-then-not-in_order : goal.returns-then-not-in_order

@@ -1,7 +1,6 @@
 -- `control::read_and_work` meets its contract: what the reader leaves is worked as the rules say.
 -- Assumes nothing.
 use mathlib.Core.Path.{refl, ap, ◌∙◌}
-use borrow.Author.Rules.{rules}
 use Rattle.reader.specs.Reading.{spaces}
 use Rattle.rules.specs.declared.Answer.{Answer}
 use Rattle.control.specs.Worked.{judged_as, unchanged}
@@ -10,8 +9,7 @@ use Rattle.control.proofs.read_and_work.Goals as goal
 
 pub returns-in-Read : goal.returns-in-Read
 returns-in-Read c =
-    let old = spaces c.args.letters.now c.args.values.now c.args.numbers.now c.args.amounts.now in
-    (
+    let old = spaces c.args.letters.now c.args.values.now c.args.numbers.now c.args.amounts.now in (
       kept_read c.args.line.now c.args.switch c.args.rec c.args.table.now c.args.out.now c.requires.0 c.requires.1 c.requires.2 old c.requires.3 c.requires.4 c.requires.5 c.requires.6 (rw c.in-Read.is at c.read.ensures) c.finish.ensures.0 c.finish.ensures.1 c.finish.ensures.2 c.finish.ensures.3,
       lends_read c.args.line.now c.args.switch c.args.table.now old c.requires.0 c.requires.1 c.requires.2 c.read.ensures,
     )

@@ -4,19 +4,15 @@ use mir.ValLaws.{to_z-of_z}
 use mir.Syntax.{w64}
 use lib.IntN.{pos}
 use lib.ListN.{get_or}
-use lib.IntN.{ℤ}
 use lib.ListN.{length-set}
 use Rattle.rules.specs.Meaning.{Setting}
-use mathlib.Core.List.{List, ◌∷◌}
+use mathlib.Core.List.{List}
 use Rattle.control.proofs.Settings.{onward_all}
 use native.Mathlib.Omega.{arith}
-use mathlib.Core.Path.{◌≡◌, refl, sym, ap, ◌∙◌}
-use Rattle.control.proofs.Settings.{onward, onward_done, onward_no_number, onward_no_amount}
-use Rattle.control.specs.Worked.{settings_of}
+use mathlib.Core.Path.{refl, sym, ap, ◌∙◌}
+use Rattle.control.proofs.Settings.{onward_done, onward_no_number, onward_no_amount}
 use Rattle.rules.specs.Promise.{apply}
-use lib.ListN.{length, take}
-use Prim.Native.Nat.{◌≤◌, ◌-◌, ◌+◌}
-use Rattle.control.proofs.set_entry.Reads as set-entry-reads
+use lib.ListN.{length}
 use Rattle.control.proofs.set_all.Goals as goal
 
 pub loop-i-init : goal.loop-i-init

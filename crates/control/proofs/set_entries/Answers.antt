@@ -1,5 +1,3 @@
-use borrow.Author.Rules.{rules}
-use Rattle.control.proofs.set_all.Reads as set-all-reads
 use Rattle.control.proofs.set_entries.Goals as goal
 
 pub returns-in-Accepted : goal.returns-in-Accepted

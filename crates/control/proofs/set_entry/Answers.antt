@@ -1,6 +1,5 @@
 use Rattle.control.proofs.Settings.{set_past}
 use mathlib.Core.Path.{sym}
-use borrow.Author.Rules.{rules}
 use Rattle.control.proofs.set_entry.Goals as goal
 
 pub returns-then-table-number : goal.returns-then-table-number

@@ -1,7 +1,6 @@
 -- `frames::accepted` meets its contract: it tells first whether the commands are all there, then whether their frames have room.
 -- Assumes nothing.
 use native.Mathlib.Omega.{arith}
-use borrow.Author.Rules.{rules}
 use Rattle.rules.specs.Frames.{frames_in}
 use Rattle.frames.proofs.Command.{commands_there, commands_short, no_frame, no_room, has_room}
 use Rattle.frames.proofs.accepted.Goals as goal

@@ -1,7 +1,6 @@
 -- `frames::answer_frames` meets its contract, case by case of the answer.
 -- Assumes nothing.
 use mathlib.Core.Path.{sym, ap, ◌∙◌}
-use borrow.Author.Rules.{rules}
 use Rattle.rules.specs.declared.Answer.{Answer}
 use Rattle.frames.specs.Text.{answer_frames}
 use Rattle.frames.proofs.Command.{for_accepted, for_refused, for_skipped, put_alike}

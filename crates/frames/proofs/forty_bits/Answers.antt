@@ -1,6 +1,5 @@
 -- `frames::forty_bits` meets its contract.
 -- Assumes nothing.
-use borrow.Author.Rules.{rules}
 use Rattle.frames.proofs.Complement.{down_fits, down_casts, down_complement, up_casts, up_complement}
 use Rattle.frames.proofs.forty_bits.Goals as goal
 

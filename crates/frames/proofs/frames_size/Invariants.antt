@@ -1,11 +1,9 @@
 -- `frames::frames_size` meets its contract: after k turns it is the length of the first k frames.
 -- Assumes nothing.
-use mathlib.Core.Path.{◌≡◌, refl, ap, ◌∙◌}
-use Prim.Native.Nat.{ℕ, ◌-◌, ◌*◌, ◌≤◌}
-use native.Mathlib.Omega.{arith}
-use lib.ListN.{length, length-append, drop}
-use Rattle.rules.specs.Frames.{frame, frames_in}
-use Rattle.frames.proofs.Command.{frames_more}
+use mathlib.Core.Path.{◌≡◌}
+use Prim.Native.Nat.{◌-◌, ◌*◌, ◌≤◌}
+use lib.ListN.{length}
+use Rattle.rules.specs.Frames.{frames_in}
 use Rattle.frames.proofs.frames_size.Given as goal
 
 abbrev pub invariant-loop-k : goal.invariant-loop-k

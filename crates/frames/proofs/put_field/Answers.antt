@@ -1,6 +1,5 @@
 -- `frames::put_field` meets its contract: eight digits, and two before them.
 -- Assumes nothing.
-use borrow.Author.Rules.{rules}
 use Rattle.frames.proofs.Digits.{ten_put}
 use Rattle.frames.proofs.put_field.Goals as goal
 

@@ -1,10 +1,10 @@
 -- `frames::put_fields` meets its contract: after j turns the first j fields stand.
 -- Assumes nothing.
 use mathlib.Core.Path.{◌≡◌, refl, ap, sym, ◌∙◌}
-use Prim.Native.Nat.{ℕ, ◌≤◌, ◌-◌, ◌+◌}
+use Prim.Native.Nat.{ℕ, ◌+◌}
 use native.Mathlib.Omega.{arith}
 use lib.Seq.{sets, get_or-drop}
-use lib.ListN.{length, take, drop, get_or, length-drop}
+use lib.ListN.{take, drop, get_or, length-drop}
 use lib.IntN.{pos}
 use Rattle.rules.specs.Frames.{fields, complement}
 use Rattle.frames.proofs.Complement.{read_complement}

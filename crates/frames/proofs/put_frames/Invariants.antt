@@ -1,12 +1,10 @@
 -- `frames::put_frames` meets its contract: after k turns the first k frames stand.
 -- Assumes nothing.
-use mathlib.Core.Path.{◌≡◌, refl, ap, ◌∙◌}
-use Prim.Native.Nat.{ℕ, ◌+◌, ◌-◌, ◌*◌, ◌≤◌}
-use native.Mathlib.Omega.{arith}
-use lib.ListN.{length, length-append, drop}
+use mathlib.Core.Path.{◌≡◌}
+use Prim.Native.Nat.{◌+◌, ◌-◌, ◌≤◌}
+use lib.ListN.{length}
 use lib.Seq.{sets}
-use Rattle.rules.specs.Frames.{frame, frames_in}
-use Rattle.frames.proofs.Command.{frames_more, frames_grow, frame_added}
+use Rattle.rules.specs.Frames.{frames_in}
 use Rattle.frames.proofs.put_frames.Given as goal
 
 abbrev pub invariant-loop-k : goal.invariant-loop-k

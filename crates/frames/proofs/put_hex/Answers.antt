@@ -1,11 +1,10 @@
 -- `frames::put_hex` meets its contract: what the text will be in the end stays the same from digit to digit.
 -- Assumes nothing.
 use mathlib.Core.Path.{◌≡◌, refl, ap, sym, ◌∙◌}
-use Prim.Native.Nat.{ℕ, ◌≤◌}
+use Prim.Native.Nat.{ℕ}
 use native.Mathlib.Omega.{arith}
 use lib.Seq.{sets}
-use lib.ListN.{length, length-set}
-use Rattle.rules.specs.Frames.{hex}
+use lib.ListN.{length-set}
 use Rattle.frames.proofs.Packed.{bytes_of, bytes_packed}
 use Rattle.frames.proofs.Digits.{byte_put}
 use Rattle.frames.proofs.put_hex.Goals as goal

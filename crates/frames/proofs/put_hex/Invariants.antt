@@ -1,13 +1,11 @@
 -- `frames::put_hex` meets its contract: what the text will be in the end stays the same from digit to digit.
 -- Assumes nothing.
-use mathlib.Core.Path.{◌≡◌, refl, ap, sym, ◌∙◌}
-use Prim.Native.Nat.{ℕ, ◌≤◌}
-use native.Mathlib.Omega.{arith}
+use mathlib.Core.Path.{◌≡◌}
+use Prim.Native.Nat.{◌≤◌}
 use lib.Seq.{sets}
-use lib.ListN.{length, length-set}
+use lib.ListN.{length}
 use Rattle.rules.specs.Frames.{hex}
-use Rattle.frames.proofs.Packed.{bytes_of, bytes_packed}
-use Rattle.frames.proofs.Digits.{byte_put}
+use Rattle.frames.proofs.Packed.{bytes_of}
 use Rattle.frames.proofs.put_hex.Given as goal
 
 abbrev pub invariant-loop-left : goal.invariant-loop-left

@@ -2,7 +2,6 @@
 -- Assumes nothing.
 use mathlib.Core.Path.{refl}
 use native.Mathlib.Omega.{arith}
-use borrow.Author.Rules.{rules}
 use Rattle.rules.specs.Frames.{refusal_frame}
 use Rattle.frames.proofs.Command.{no_room, has_room}
 use Rattle.frames.proofs.refusal.Goals as goal

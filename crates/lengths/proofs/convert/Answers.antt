@@ -3,7 +3,6 @@
 use Rattle.lengths.specs.Saturated.{conversion}
 use Rattle.value.proofs.Ranges.{inside}
 use mathlib.Core.Path.{sym, ◌∙◌}
-use borrow.Author.Rules.{rules}
 use Rattle.lengths.proofs.convert.Goals as goal
 
 pub converted-requires : goal.converted-requires

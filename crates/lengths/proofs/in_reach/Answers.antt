@@ -1,7 +1,6 @@
 -- `lengths::in_reach` meets its contract.
 -- Assumes nothing.
 use mathlib.Core.Path.{sym}
-use borrow.Author.Rules.{rules}
 use Rattle.laws.proofs.Ints.{back}
 use Rattle.lengths.proofs.Lengths.{short_of, up_to}
 use Rattle.lengths.proofs.in_reach.Goals as goal

@@ -1,6 +1,5 @@
 -- `lengths::is_zero_length` meets its contract: by its extent.
 -- Assumes nothing.
-use borrow.Author.Rules.{rules}
 use Rattle.lengths.proofs.is_zero_length.Goals as goal
 
 pub returns : goal.returns

@@ -1,8 +1,6 @@
-use borrow.Author.Rules.{rules}
 use native.Mathlib.Omega.{arith}
 use mathlib.Core.Path.{sym}
 use Rattle.marks.proofs.Blanks.{opens_here, opens_nowhere}
-use Rattle.marks.proofs.past_blanks.Reads as past-blanks-reads
 use Rattle.marks.proofs.opens.Goals as goal
 
 pub returns-then-line-i : goal.returns-then-line-i

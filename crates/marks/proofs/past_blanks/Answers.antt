@@ -1,9 +1,6 @@
 use Rattle.marks.proofs.Blanks.{one_more, no_blank, no_more}
 use native.Mathlib.Omega.{arith}
-use mathlib.Core.Path.{◌≡◌, refl, sym, ◌∙◌}
-use lib.ListN.{length}
-use Prim.Native.Nat.{◌-◌}
-use Rattle.marks.specs.Blanks.{past_blanks}
+use mathlib.Core.Path.{sym, ◌∙◌}
 use Rattle.marks.proofs.past_blanks.Goals as goal
 
 pub returns-in_default : goal.returns-in_default

@@ -1,6 +1,4 @@
-use Rattle.marks.proofs.Blanks.{one_more, no_blank, no_more}
-use native.Mathlib.Omega.{arith}
-use mathlib.Core.Path.{◌≡◌, refl, sym, ◌∙◌}
+use mathlib.Core.Path.{◌≡◌}
 use lib.ListN.{length}
 use Prim.Native.Nat.{◌-◌}
 use Rattle.marks.specs.Blanks.{past_blanks}

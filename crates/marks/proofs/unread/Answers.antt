@@ -1,5 +1,3 @@
-use borrow.Author.Rules.{rules}
-use Rattle.marks.proofs.plain_mark.Reads as plain-mark-reads
 use Rattle.marks.proofs.unread.Goals as goal
 
 pub returns-then-switch : goal.returns-then-switch

@@ -1,13 +1,10 @@
 -- `orders::count` meets its contract: what was counted, and what is asked for from i on, are all that is asked for.
 -- Assumes nothing.
 use mathlib.Core.Path.{ap, ◌≡◌}
-use mathlib.Core.Logic.{⊎_elim}
-use Prim.Native.Nat.{◌≤◌, ◌+◌, ◌-◌}
 use native.Mathlib.Omega.{arith}
-use lib.ListN.{length, drop}
+use lib.ListN.{length}
 use borrow.Author.Rules.{rules}
-use Rattle.orders.specs.Orders.{asked}
-use Rattle.orders.proofs.Asked.{asked_from, asked_behind}
+use Rattle.orders.proofs.Asked.{asked_behind}
 use Rattle.orders.proofs.count.Goals as goal
 
 pub returns : goal.returns

@@ -1,7 +1,6 @@
 -- `orders::has` meets its contract.
 -- Assumes nothing.
 use mathlib.Core.Path.{refl}
-use borrow.Author.Rules.{rules}
 use Rattle.orders.proofs.has.Goals as goal
 
 pub returns-then-c : goal.returns-then-c

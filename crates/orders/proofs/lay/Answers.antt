@@ -1,13 +1,12 @@
 -- `orders::lay` meets its contract.
 -- Assumes nothing.
-use mathlib.Core.Path.{refl, ◌≡◌, ap, ◌∙◌}
-use mathlib.Core.List.{List}
-use Prim.Native.Nat.{◌≤◌, ◌+◌, ◌-◌}
+use mathlib.Core.Path.{refl, ◌≡◌}
+use Prim.Native.Nat.{◌+◌}
 use native.Mathlib.Numerals.{add-one}
 use native.Mathlib.Omega.{arith}
-use lib.IntN.{ℤ, pos}
+use lib.IntN.{pos}
 use lib.ListN.{set, length-set, length, get_or}
-use lib.Seq.{paste, paste-suc, paste-zero, length-paste}
+use lib.Seq.{paste-suc}
 use mir.ValLaws.{to_z-of_z, to_z_pos}
 use mir.Syntax.{w64}
 use mir.Val.{to_z}

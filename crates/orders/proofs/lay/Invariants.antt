@@ -1,18 +1,9 @@
 -- `orders::lay` meets its contract.
 -- Assumes nothing.
-use mathlib.Core.Path.{refl, ◌≡◌, ap, ◌∙◌}
-use mathlib.Core.List.{List}
+use mathlib.Core.Path.{◌≡◌}
 use Prim.Native.Nat.{◌≤◌, ◌+◌, ◌-◌}
-use native.Mathlib.Numerals.{add-one}
-use native.Mathlib.Omega.{arith}
-use lib.IntN.{ℤ, pos}
-use lib.ListN.{set, length-set, length, get_or}
-use lib.Seq.{paste, paste-suc, paste-zero, length-paste}
-use mir.ValLaws.{to_z-of_z, to_z_pos}
-use mir.Syntax.{w64}
-use mir.Val.{to_z}
-use borrow.Author.Rules.{rules}
-use Rattle.orders.proofs.Laying.{laid_copied}
+use lib.ListN.{length}
+use lib.Seq.{paste}
 use Rattle.orders.proofs.lay.Given as goal
 
 -- behind the kind, the first i fields are copied

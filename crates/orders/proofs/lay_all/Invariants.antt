@@ -1,16 +1,12 @@
 -- `orders::lay_all` meets its contract: what is still to be laid is asked for among the orders from i on.
 -- Assumes nothing.
-use mathlib.Core.Path.{refl, sym, ◌∙◌, ap, ◌≡◌}
-use mathlib.Core.Logic.{⊎_elim}
-use Prim.Native.Nat.{◌≤◌, ◌+◌, ◌-◌}
-use native.Mathlib.Omega.{arith}
-use lib.ListN.{length, drop, get_or}
-use borrow.Author.Rules.{rules}
+use mathlib.Core.Path.{◌≡◌}
+use Prim.Native.Nat.{◌≤◌, ◌-◌}
+use lib.ListN.{length, drop}
 use Rattle.rules.specs.Promise.{over}
 use Rattle.rules.specs.Commands.{written}
 use Rattle.orders.specs.Orders.{asked}
-use Rattle.orders.proofs.Asked.{nothing, asked_from, asked_behind}
-use Rattle.orders.proofs.Laying.{ahead_all, ahead_next, keeps_length, laid_none, Ahead}
+use Rattle.orders.proofs.Laying.{Ahead}
 use Rattle.orders.proofs.lay_all.Given as goal
 
 abbrev pub invariant-loop-i : goal.invariant-loop-i

@@ -3,7 +3,6 @@
 use native.Mathlib.Omega.{arith}
 use mir.ValLaws.{to_z_pos}
 use mir.Syntax.{w64}
-use borrow.Author.Rules.{rules}
 use Rattle.orders.proofs.with_code.Goals as goal
 
 pub returns : goal.returns

@@ -5,7 +5,6 @@ use Prim.Native.Nat.{◌*◌}
 use native.Mathlib.Omega.{arith}
 use lib.ListN.{length}
 use borrow.Author.Tests.{lt-ltb, le-ltb}
-use borrow.Author.Rules.{rules}
 use Rattle.orders.specs.declared.Written.TheVariants.{Commands}
 use Rattle.orders.specs.Orders.{asked}
 use Rattle.orders.proofs.write.Goals as goal

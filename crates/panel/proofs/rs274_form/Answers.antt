@@ -1,7 +1,6 @@
 -- `panel::rs274_form` meets its contract: the reader's two numbers, as C has them.
 -- Assumes nothing.
 use mathlib.Core.Path.{ap}
-use borrow.Author.Rules.{rules}
 use Rattle.reader.specs.declared.line.FormAnswer.{FormAnswer}
 use Rattle.panel.specs.declared.Rs274FormAnswer.{Rs274FormAnswer}
 use Rattle.panel.proofs.rs274_form.Goals as goal

@@ -1,9 +1,7 @@
 -- `record::in_order` meets its contract.
 -- Assumes nothing.
 use mathlib.Core.Path.{refl, sym, ◌∙◌}
-use borrow.Author.Rules.{rules}
 use Rattle.rules.specs.Reach.{in_order}
-use Rattle.record.proofs.Ranges.{passed, failed}
 use Rattle.record.proofs.in_order.Goals as goal
 
 pub returns-then-not-places_in_reach : goal.returns-then-not-places_in_reach

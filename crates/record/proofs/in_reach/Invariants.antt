@@ -1,13 +1,9 @@
 -- `record::in_reach` meets its contract.
 -- Assumes nothing.
-use mathlib.Core.Path.{◌≡◌, refl, sym, ◌∙◌}
+use mathlib.Core.Path.{◌≡◌}
 use Prim.Native.Nat.{◌≤◌, ◌-◌}
-use native.Mathlib.Omega.{arith}
-use lib.Seq.{drop-length}
 use lib.ListN.{length, drop}
-use borrow.Author.Rules.{rules}
 use Rattle.rules.specs.Reach.{in_reach}
-use Rattle.record.proofs.Ranges.{passed, failed, near, far}
 use Rattle.record.proofs.in_reach.Given as goal
 
 abbrev pub invariant-loop-axis : goal.invariant-loop-axis

@@ -1,13 +1,10 @@
 -- `record::origins_in_reach` meets its contract.
 -- Assumes nothing.
 use mathlib.Core.Path.{◌≡◌, refl, sym, ◌∙◌}
-use Prim.Native.Nat.{◌≤◌, ◌-◌}
 use native.Mathlib.Omega.{arith}
 use lib.Seq.{drop-length}
-use lib.ListN.{length, drop}
-use borrow.Author.Rules.{rules}
-use Rattle.rules.specs.Reach.{in_reach}
-use Rattle.record.proofs.Ranges.{passed, failed, near, far}
+use lib.ListN.{length}
+use Rattle.record.proofs.Ranges.{near, far}
 use Rattle.record.proofs.origins_in_reach.Goals as goal
 
 pub returns-then-not-in_reach : goal.returns-then-not-in_reach

@@ -1,8 +1,6 @@
 -- `record::places_in_reach` meets its contract.
 -- Assumes nothing.
 use mathlib.Core.Path.{refl, sym, ◌∙◌}
-use borrow.Author.Rules.{rules}
-use Rattle.record.proofs.Ranges.{passed, failed}
 use Rattle.record.proofs.places_in_reach.Goals as goal
 
 pub returns-then-not-in_reach : goal.returns-then-not-in_reach

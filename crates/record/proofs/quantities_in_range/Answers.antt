@@ -2,8 +2,6 @@
 -- Assumes nothing.
 use mathlib.Core.Path.{refl, sym, ◌∙◌}
 use borrow.Author.Tests.{le-leb, lt-leb}
-use borrow.Author.Rules.{rules}
-use Rattle.record.proofs.Ranges.{passed, failed}
 use Rattle.record.proofs.quantities_in_range.Goals as goal
 
 pub returns-then-not-feed_in_range : goal.returns-then-not-feed_in_range

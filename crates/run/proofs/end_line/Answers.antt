@@ -3,7 +3,6 @@
 use mathlib.Core.Path.{refl, ap, ◌∙◌}
 use mathlib.Core.List.{List}
 use Prim.Native.Nat.{ℕ}
-use borrow.Author.Rules.{rules}
 use Rattle.rules.specs.Frames.{without_return}
 use Rattle.run.specs.Stands.{stand, going, held_of, line_worked}
 use Rattle.run.proofs.Branches.{held_works, fed_ends, last_ends, empty_closes, line_closes}
@@ -11,7 +10,7 @@ use Rattle.run.proofs.end_line.Goals as goal
 
 pub returns-then-fed : goal.returns-then-fed
 returns-then-fed c =
-        let st = stand (going c.args.rec c.args.held) c.args.line.now c.args.table.now c.args.out.now c.args.text.now c.args.filled in
+    let st = stand (going c.args.rec c.args.held) c.args.line.now c.args.table.now c.args.out.now c.args.text.now c.args.filled in
     let none = stand (going c.args.rec 0) c.args.line.now c.args.table.now c.args.out.now c.args.text.now c.args.filled in
     fed_ends st c.if-fed.true
     (held_works (without_return (held_of st)) c.args.rec c.args.held c.args.line.now c.args.table.now c.args.out.now c.args.text.now c.args.filled
@@ -19,12 +18,12 @@ returns-then-fed c =
 
 pub returns-then-held-eq0 : goal.returns-then-held-eq0
 returns-then-held-eq0 c =
-        let st = stand (going c.args.rec c.args.held) c.args.line.now c.args.table.now c.args.out.now c.args.text.now c.args.filled in
+    let st = stand (going c.args.rec c.args.held) c.args.line.now c.args.table.now c.args.out.now c.args.text.now c.args.filled in
     last_ends st c.if-fed.false (empty_closes st refl c.if-held-eq0.true)
 
 pub returns : goal.returns
 returns c =
-        let st = stand (going c.args.rec c.args.held) c.args.line.now c.args.table.now c.args.out.now c.args.text.now c.args.filled in
+    let st = stand (going c.args.rec c.args.held) c.args.line.now c.args.table.now c.args.out.now c.args.text.now c.args.filled in
     last_ends st c.if-fed.false
     (line_closes st refl c.if-held-eq0.false
     (held_works (held_of st) c.args.rec c.args.held c.args.line.now c.args.table.now c.args.out.now c.args.text.now c.args.filled c.work-last.ensures))

@@ -1,14 +1,8 @@
 use Rattle.run.proofs.Branches.{overfull_feeds, piece_feeds, piece_stops, piece_taken}
 use Rattle.run.specs.declared.State.{State}
 use Rattle.run.specs.Stands.{stand, taken}
-use Rattle.run.specs.Promised.{Goes}
-use lib.ListN.{length}
-use Prim.Native.Nat.{◌-◌, ◌≤◌}
 use native.Mathlib.Omega.{arith}
-use mathlib.Core.Path.{◌≡◌, refl, sym, ap, ◌∙◌}
-use Rattle.run.proofs.is_stopped.Reads as is-stopped-reads
-use Rattle.run.proofs.over.Reads as over_reads
-use Rattle.run.proofs.take_line.Reads as take-line-reads
+use mathlib.Core.Path.{refl, sym, ap, ◌∙◌}
 use Rattle.run.proofs.feed.Goals as goal
 
 pub over-requires : goal.over-requires
@@ -16,7 +10,7 @@ over-requires c = tt
 
 pub returns-then-line-state : goal.returns-then-line-state
 returns-then-line-state c =
-        let st = stand c.args.state c.args.line.now c.args.table.now c.args.out.now c.args.text.now 0 in
+    let st = stand c.args.state c.args.line.now c.args.table.now c.args.out.now c.args.text.now 0 in
     λ tree tells. ap (λ (x : State). taken (stand x c.args.line.now c.args.table.now c.args.out.now c.args.text.now 0) 0) c.over.ensures ∙ overfull_feeds st c.args.piece.now (omega arith) tree tells
 
 pub loop-taken-init : goal.loop-taken-init
@@ -27,24 +21,24 @@ is_stopped-requires c = tt
 
 pub returns-then-is_stopped : goal.returns-then-is_stopped
 returns-then-is_stopped c =
-        let st = stand c.args.state c.args.line.now c.args.table.now c.args.out.now c.args.text.now 0 in
+    let st = stand c.args.state c.args.line.now c.args.table.now c.args.out.now c.args.text.now 0 in
     let sl = stand c.loop-taken.now c.loop-taken.line c.loop-taken.table c.loop-taken.out c.loop-taken.text c.loop-taken.filled in
     piece_feeds st c.args.piece.now (omega arith) (λ tree tells. piece_stops tree sl c.args.piece.now c.loop-taken.taken (omega arith) (sym c.is_stopped.ensures ∙ c.if-is_stopped.true) ∙ sym (c.loop-taken.invariant.6 tree tells))
 
 pub take_line-fed-requires : goal.take_line-fed-requires
 take_line-fed-requires c =
-        (omega arith, c.loop-taken.invariant.5, sym c.is_stopped.ensures ∙ c.if-is_stopped.false)
+    (omega arith, c.loop-taken.invariant.5, sym c.is_stopped.ensures ∙ c.if-is_stopped.false)
 
 pub loop-taken-smaller : goal.loop-taken-smaller
 loop-taken-smaller c =
-        omega (arith, c.take_line-fed.ensures.0, c.take_line-fed.ensures.1)
+    omega (arith, c.take_line-fed.ensures.0, c.take_line-fed.ensures.1)
 
 pub loop-taken-preserved : goal.loop-taken-preserved
 loop-taken-preserved c =
-        (c.take_line-fed.ensures.1, omega arith, omega arith, omega arith, omega arith, c.take_line-fed.ensures.2, λ tree tells. c.loop-taken.invariant.6 tree tells ∙ c.take_line-fed.ensures.3 tree tells)
+    (c.take_line-fed.ensures.1, omega arith, omega arith, omega arith, omega arith, c.take_line-fed.ensures.2, λ tree tells. c.loop-taken.invariant.6 tree tells ∙ c.take_line-fed.ensures.3 tree tells)
 
 pub returns : goal.returns
 returns c =
-        let st = stand c.args.state c.args.line.now c.args.table.now c.args.out.now c.args.text.now 0 in
+    let st = stand c.args.state c.args.line.now c.args.table.now c.args.out.now c.args.text.now 0 in
     let sl = stand c.loop-taken.now c.loop-taken.line c.loop-taken.table c.loop-taken.out c.loop-taken.text c.loop-taken.filled in
     piece_feeds st c.args.piece.now (omega arith) (λ tree tells. piece_taken tree sl c.args.piece.now c.loop-taken.taken (omega arith) ∙ sym (c.loop-taken.invariant.6 tree tells))

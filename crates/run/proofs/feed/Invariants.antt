@@ -1,14 +1,8 @@
-use Rattle.run.proofs.Branches.{overfull_feeds, piece_feeds, piece_stops, piece_taken}
-use Rattle.run.specs.declared.State.{State}
-use Rattle.run.specs.Stands.{stand, taken}
+use Rattle.run.specs.Stands.{stand}
 use Rattle.run.specs.Promised.{Goes}
 use lib.ListN.{length}
 use Prim.Native.Nat.{◌-◌, ◌≤◌}
-use native.Mathlib.Omega.{arith}
-use mathlib.Core.Path.{◌≡◌, refl, sym, ap, ◌∙◌}
-use Rattle.run.proofs.is_stopped.Reads as is-stopped-reads
-use Rattle.run.proofs.over.Reads as over_reads
-use Rattle.run.proofs.take_line.Reads as take-line-reads
+use mathlib.Core.Path.{◌≡◌}
 use Rattle.run.proofs.feed.Given as goal
 
 abbrev pub invariant-loop-taken : goal.invariant-loop-taken

@@ -1,6 +1,4 @@
 use mathlib.Core.Bool.{false}
-use borrow.Author.Rules.{rules}
-use Rattle.record.proofs.fresh.Reads as fresh-reads
 use Rattle.run.proofs.fresh.Goals as goal
 
 pub returns : goal.returns

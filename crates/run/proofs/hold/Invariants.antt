@@ -1,11 +1,9 @@
 -- `run::hold` meets its contract: each byte of the loop is one more that is held.
 -- Assumes nothing.
-use mathlib.Core.Path.{◌≡◌, refl}
+use mathlib.Core.Path.{◌≡◌}
 use Prim.Native.Nat.{◌+◌, ◌-◌, ◌≤◌}
-use native.Mathlib.Omega.{arith}
-use lib.ListN.{length, get_or, length-set}
+use lib.ListN.{length}
 use Rattle.run.specs.Promised.{Holds}
-use Rattle.run.proofs.Branches.{holds_none, holds_more}
 use Rattle.run.proofs.hold.Given as goal
 
 abbrev pub invariant-loop-many : goal.invariant-loop-many

@@ -5,7 +5,6 @@ use Prim.Native.Nat.{◌+◌}
 use native.Mathlib.Omega.{arith}
 use lib.Dec.{ltb}
 use lib.ListN.{length, get_or}
-use borrow.Author.Rules.{rules}
 use Rattle.run.specs.Stands.{stand, going, held_to}
 use Rattle.run.proofs.Branches.{either_false, ends_steps, going_steps, piece_goes}
 use Rattle.run.proofs.take_line.Goals as goal
@@ -15,30 +14,30 @@ hold-many-requires c = (omega arith, c.requires.1)
 
 pub overflow_add-held : goal.overflow_add-held
 overflow_add-held c =
-        omega (arith, c.hold-many.ensures.1)
+    omega (arith, c.hold-many.ensures.1)
 
 pub overflow_add-at : goal.overflow_add-at
 overflow_add-at c =
-        omega (arith, c.hold-many.ensures.0)
+    omega (arith, c.hold-many.ensures.0)
 
 pub returns-then-at-piece : goal.returns-then-at-piece
 returns-then-at-piece c =
-        (omega (arith, c.hold-many.ensures.0, c.requires.0), c.hold-many.ensures.0, c.hold-many.ensures.1, c.hold-many.ensures.3 c.args.state c.args.table.now c.args.out.now c.args.text.now c.args.filled refl c.requires.2)
+    (omega (arith, c.hold-many.ensures.0, c.requires.0), c.hold-many.ensures.0, c.hold-many.ensures.1, c.hold-many.ensures.3 c.args.state c.args.table.now c.args.out.now c.args.text.now c.args.filled refl c.requires.2)
 
 pub bounds-piece-at : goal.bounds-piece-at
 bounds-piece-at c =
-        omega (arith, c.hold-many.ensures.0)
+    omega (arith, c.hold-many.ensures.0)
 
 pub end_line-done-requires : goal.end_line-done-requires
 end_line-done-requires c = c.hold-many.ensures.1
 
 pub overflow_add-result : goal.overflow_add-result
 overflow_add-result c =
-        omega (arith, c.hold-many.ensures.0)
+    omega (arith, c.hold-many.ensures.0)
 
 pub returns : goal.returns
 returns c =
-        let at = c.args.from + c.hold-many.result in
+    let at = c.args.from + c.hold-many.result in
     let held = c.args.state.held + c.hold-many.result in
     let b = get_or c.args.piece.now at 0 in
     let Going-on = either_false c.args.state.ended (ltb (length c.args.text.now) (c.args.filled + 657)) c.requires.2 in

@@ -3,7 +3,7 @@
 -- Assumes nothing.
 use mathlib.Core.Path.{◌≡◌, sym, ap, ◌∙◌}
 use mathlib.Core.List.{List, []}
-use Prim.Native.Nat.{ℕ, ◌≤◌, ◌-◌}
+use Prim.Native.Nat.{ℕ, ◌≤◌}
 use native.Mathlib.Omega.{arith}
 use lib.IntN.{ℤ, pos}
 use lib.ListN.{length, get_or}
@@ -45,15 +45,15 @@ pub loop-i-preserved : goal.loop-i-preserved
 loop-i-preserved c =
     let told = sym c.is_letter.ensures in
     elim c.if-is_letter.branch [
-      then-is_letter w ↦
-        let e = as_read c.args.letters.now c.args.values.now c.loop-i.i (search rules) w.entry_of-entry.ensures in
-        rw (w.held-is, w.mask-is, w.number-is) (
-          omega arith,
-          omega arith,
-          rw (w.keep-mask.ensures.value, w.keep-mask.ensures.held_after, e) (keep_one (entry_of (read c.args.letters.now c.args.values.now c.loop-i.i)) (key_few (read c.args.letters.now c.args.values.now c.loop-i.i)) (rw (next_filed c.args.letters.now c.args.values.now c.loop-i.i (omega arith) (omega arith) (told ∙ w.if-is_letter.true)) at c.loop-i.invariant.2)),
-        )
-    | else-is_letter w ↦
-        rw (w.held-is, w.mask-is, w.number-is) (omega arith, omega arith, rw (next_passed c.args.letters.now c.args.values.now c.loop-i.i (omega arith) (omega arith) (told ∙ w.if-is_letter.false)) at c.loop-i.invariant.2)
+      | then-is_letter w ↦
+          let e = as_read c.args.letters.now c.args.values.now c.loop-i.i (search rules) w.entry_of-entry.ensures in
+          rw (w.held-is, w.mask-is, w.number-is) (
+            omega arith,
+            omega arith,
+            rw (w.keep-mask.ensures.value, w.keep-mask.ensures.held_after, e) (keep_one (entry_of (read c.args.letters.now c.args.values.now c.loop-i.i)) (key_few (read c.args.letters.now c.args.values.now c.loop-i.i)) (rw (next_filed c.args.letters.now c.args.values.now c.loop-i.i (omega arith) (omega arith) (told ∙ w.if-is_letter.true)) at c.loop-i.invariant.2)),
+          )
+      | else-is_letter w ↦
+          rw (w.held-is, w.mask-is, w.number-is) (omega arith, omega arith, rw (next_passed c.args.letters.now c.args.values.now c.loop-i.i (omega arith) (omega arith) (told ∙ w.if-is_letter.false)) at c.loop-i.invariant.2)
     ]
 
 pub overflow_cast-fewer : goal.overflow_cast-fewer

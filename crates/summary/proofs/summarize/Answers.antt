@@ -3,7 +3,6 @@
 use mathlib.Core.Path.{sym, ap, ◌∙◌}
 use mathlib.Core.List.{List}
 use lib.Seq.{length-take-le}
-use borrow.Author.Rules.{rules}
 use Rattle.rules.specs.Meaning.{Said}
 use Rattle.summary.specs.Words.{lettered, summary_of}
 use Rattle.summary.proofs.Held.{front_fits, front_even, said_front}

@@ -1,10 +1,8 @@
 use borrow.Author.Tests.{eq-eqb, ne_eqb}
-use mathlib.Core.Bool.{true, not}
-use mathlib.Core.Path.{ap, sym, ◌∙◌}
-use Prim.Native.Nat.{◌-◌}
-use lib.ListN.{length}
+use mathlib.Core.Bool.{not}
+use mathlib.Core.Path.{ap, sym}
 use native.Mathlib.Omega.{arith}
-use Rattle.text.proofs.Preparing.{Copying, none_copied, copied, closed, unclosed}
+use Rattle.text.proofs.Preparing.{none_copied, copied, closed, unclosed}
 use Rattle.text.proofs.copy_comment.Goals as goal
 
 pub loop-i-init : goal.loop-i-init

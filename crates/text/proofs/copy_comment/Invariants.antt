@@ -1,10 +1,7 @@
-use borrow.Author.Tests.{eq-eqb, ne_eqb}
-use mathlib.Core.Bool.{true, not}
-use mathlib.Core.Path.{ap, sym, ◌∙◌}
+use mathlib.Core.Bool.{true}
 use Prim.Native.Nat.{◌-◌}
 use lib.ListN.{length}
-use native.Mathlib.Omega.{arith}
-use Rattle.text.proofs.Preparing.{Copying, none_copied, copied, closed, unclosed}
+use Rattle.text.proofs.Preparing.{Copying}
 use Rattle.text.proofs.copy_comment.Given as goal
 
 abbrev pub invariant-loop-i : goal.invariant-loop-i

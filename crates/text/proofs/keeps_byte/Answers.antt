@@ -1,5 +1,3 @@
-use borrow.Author.Rules.{rules}
-use Rattle.text.proofs.is_blank.Reads as is-blank-reads
 use Rattle.text.proofs.keeps_byte.Goals as goal
 
 pub returns : goal.returns

@@ -1,5 +1,4 @@
 use borrow.Author.Tests.{le-leb, lt-leb}
-use borrow.Author.Rules.{rules}
 use Rattle.text.proofs.raised.Goals as goal
 
 pub returns-then-b-lt97 : goal.returns-then-b-lt97

@@ -1,4 +1,3 @@
-
 use Rattle.text.proofs.stays_inside.Goals as goal
 
 pub returns-then-inside : goal.returns-then-inside

@@ -1,7 +1,6 @@
 -- `value::in_range` meets its contract: the number that a value holds is read back as it is, and its size compared.
 -- Assumes nothing.
 use Rattle.laws.proofs.Ints.{back}
-use borrow.Author.Rules.{rules}
 use Rattle.value.proofs.in_range.Goals as goal
 
 pub returns : goal.returns

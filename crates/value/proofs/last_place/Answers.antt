@@ -1,6 +1,3 @@
-use mathlib.Core.Path.{sym}
-use Rattle.value.proofs.Written.{place_one}
-use native.Mathlib.Omega.{arith}
 use Rattle.value.proofs.last_place.Goals as goal
 
 pub returns-in-0 : goal.returns-in-0

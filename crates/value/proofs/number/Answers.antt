@@ -1,7 +1,6 @@
 use Rattle.laws.proofs.Ints.{mul_bound}
 use Rattle.rules.proofs.Fifth.{few_decimals}
 use Rattle.value.proofs.Written.{too_large, five_decimals, cut_to_five, place_high}
-use borrow.Author.Rules.{rules}
 use mathlib.Core.Path.{sym, ◌∙◌}
 use native.Mathlib.Omega.{arith}
 use Prim.Native.Nat.{◌≤◌}

@@ -2,7 +2,7 @@
 -- Assumes nothing.
 use borrow.Author.Rules.{rules}
 use mathlib.Core.Path.{sym, ◌∙◌}
-use Rattle.value.proofs.Ranges.{CountsAs, below_first, above_last, a_parameter, no_parameter, index_fits}
+use Rattle.value.proofs.Ranges.{below_first, above_last, a_parameter, no_parameter, index_fits}
 use Rattle.value.proofs.parameter.Goals as goal
 
 pub returns-then-n-lt1 : goal.returns-then-n-lt1

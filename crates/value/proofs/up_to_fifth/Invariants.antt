@@ -1,8 +1,5 @@
-use Prim.Native.Nat.{◌-◌, ◌/◌, ◌^◌, ◌≤◌, ◌<◌}
-use mathlib.Core.Path.{◌≡◌, refl, sym, ◌∙◌}
-use native.Mathlib.Omega.{arith}
-use native.Mathlib.Nat as N
-use Rattle.value.proofs.Written.{one_fewer, none_fewer}
+use Prim.Native.Nat.{◌-◌, ◌/◌, ◌^◌, ◌≤◌}
+use mathlib.Core.Path.{◌≡◌}
 use Rattle.value.proofs.up_to_fifth.Given as goal
 
 abbrev pub invariant-loop-left : goal.invariant-loop-left

@@ -1,7 +1,6 @@
 -- `arithmetic::functions::absolute` meets its contract: the size without the sign.
 -- Assumes nothing.
 use mathlib.Core.Path.{◌∙◌}
-use borrow.Author.Rules.{rules}
 use Rattle.arithmetic.proofs.functions.absolute.Goals as goal
 
 pub returns : goal.returns

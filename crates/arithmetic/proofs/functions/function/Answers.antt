@@ -2,7 +2,6 @@
 -- Assumes nothing.
 use mathlib.Core.Path.{◌∙◌}
 use Rattle.rules.specs.Meaning.{function}
-use borrow.Author.Rules.{rules}
 use Rattle.arithmetic.proofs.functions.function.Goals as goal
 
 pub returns-in-Abs : goal.returns-in-Abs

@@ -2,7 +2,6 @@
 -- Assumes nothing.
 use Rattle.arithmetic.proofs.Sizes.{upward_by}
 use mathlib.Core.Path.{◌∙◌}
-use borrow.Author.Rules.{rules}
 use Rattle.arithmetic.proofs.functions.fup.Goals as goal
 
 pub returns : goal.returns

@@ -2,7 +2,6 @@
 -- Assumes nothing.
 use Rattle.arithmetic.proofs.Sizes.{rounded_by}
 use mathlib.Core.Path.{◌∙◌}
-use borrow.Author.Rules.{rules}
 use Rattle.arithmetic.proofs.functions.round.Goals as goal
 
 pub returns : goal.returns

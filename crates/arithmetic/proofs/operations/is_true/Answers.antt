@@ -1,6 +1,5 @@
 -- `arithmetic::operations::is_true` meets its contract: a value is not zero where its size is not.
 -- Assumes nothing.
-use borrow.Author.Rules.{rules}
 use Rattle.arithmetic.proofs.operations.is_true.Goals as goal
 
 pub returns : goal.returns

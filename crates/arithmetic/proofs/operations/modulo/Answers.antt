@@ -1,6 +1,5 @@
 -- `arithmetic::operations::modulo` meets its contract: what the sizes leave over, by the sign of the dividend (`modulo-is`).
 -- Assumes nothing.
-use borrow.Author.Rules.{rules}
 use mathlib.Core.Path.{◌∙◌}
 use Rattle.arithmetic.proofs.Sizes.{modulo_is, no_divisor}
 use Rattle.arithmetic.proofs.operations.modulo.Goals as goal

@@ -2,7 +2,6 @@
 -- Assumes nothing.
 use Rattle.rules.specs.Meaning.{operation}
 use mathlib.Core.Path.{◌∙◌}
-use borrow.Author.Rules.{rules}
 use Rattle.arithmetic.proofs.operations.operation.Goals as goal
 
 pub returns-in-Add : goal.returns-in-Add

@@ -3,7 +3,6 @@
 use mathlib.Core.Path.{◌∙◌}
 use Rattle.laws.proofs.Ints.{mul_bound}
 use native.Mathlib.Omega.{arith}
-use borrow.Author.Rules.{rules}
 use Rattle.arithmetic.proofs.Sizes.{product_is}
 use Rattle.arithmetic.proofs.operations.product.Goals as goal
 

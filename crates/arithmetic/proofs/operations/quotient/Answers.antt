@@ -1,6 +1,5 @@
 -- `arithmetic::operations::quotient` meets its contract: sizes are divided and rounded, signs compared (`quotient_is`).
 -- Assumes nothing.
-use borrow.Author.Rules.{rules}
 use mathlib.Core.Path.{◌∙◌}
 use Rattle.arithmetic.proofs.Sizes.{quotient_is, no_divisor}
 use Rattle.arithmetic.proofs.operations.quotient.Goals as goal

@@ -2,7 +2,6 @@
 -- Assumes nothing.
 use Rattle.arithmetic.proofs.Sizes.{residue_small, residue_le}
 use native.Mathlib.Omega.{arith}
-use borrow.Author.Rules.{rules}
 use Rattle.arithmetic.proofs.residues.down_to.Goals as goal
 
 pub overflow_add-result : goal.overflow_add-result

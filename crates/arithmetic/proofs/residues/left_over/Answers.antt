@@ -2,7 +2,6 @@
 -- Assumes nothing.
 use native.Mathlib.Omega.{arith}
 use native.Mathlib.Nat.{mod-lt}
-use borrow.Author.Rules.{rules}
 use Rattle.arithmetic.proofs.residues.left_over.Goals as goal
 
 pub overflow_sub-result : goal.overflow_sub-result

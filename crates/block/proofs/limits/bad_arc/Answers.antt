@@ -1,7 +1,6 @@
 -- `block::limits::bad_arc` meets its contract.
 -- Assumes nothing.
 use mathlib.Core.Path.{refl}
-use borrow.Author.Rules.{rules}
 use Rattle.block.proofs.limits.bad_arc.Goals as goal
 
 pub returns : goal.returns

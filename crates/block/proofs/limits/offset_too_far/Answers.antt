@@ -1,7 +1,6 @@
 -- `block::limits::offset_too_far` meets its contract.
 -- Assumes nothing.
 use mathlib.Core.Path.{refl}
-use borrow.Author.Rules.{rules}
 use Rattle.block.proofs.limits.offset_too_far.Goals as goal
 
 pub returns : goal.returns

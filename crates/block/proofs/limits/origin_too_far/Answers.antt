@@ -2,7 +2,6 @@
 -- Assumes nothing.
 use mathlib.Core.Path.{refl, sym, ◌∙◌}
 use native.Mathlib.Omega.{arith}
-use borrow.Author.Rules.{rules}
 use Rattle.rules.specs.Numbers.{whole}
 use Rattle.block.proofs.Modes.{wider, a_system}
 use Rattle.block.proofs.limits.origin_too_far.Goals as goal

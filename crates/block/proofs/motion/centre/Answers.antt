@@ -1,9 +1,7 @@
 -- `block::motion::centre` meets its contract.
 -- Assumes nothing.
-use mathlib.Core.Path.{ap, ◌∙◌}
+use mathlib.Core.Path.{ap}
 use mathlib.Core.List.{map}
-use native.Mathlib.Omega.{arith}
-use borrow.Author.Rules.{rules}
 use Rattle.checks.proofs.Axes.{plane_two, plane_axis}
 use Rattle.block.specs.Motion.{centre_on}
 use Rattle.block.proofs.motion.centre.Goals as goal

@@ -1,7 +1,6 @@
 -- `block::motion::centre_at` meets its contract.
 -- Assumes nothing.
 use mathlib.Core.Path.{◌∙◌}
-use borrow.Author.Rules.{rules}
 use Rattle.block.proofs.Sums.{word_short, from_here}
 use Rattle.rules.specs.Reach.{converted, at}
 use Rattle.checks.specs.Modes.{word_at}

@@ -1,7 +1,6 @@
 -- `block::motion::long` meets its contract.
 -- Assumes nothing.
 use mathlib.Core.Path.{◌∙◌}
-use borrow.Author.Rules.{rules}
 use Rattle.lengths.proofs.Lengths.{conversion_is}
 use Rattle.block.proofs.motion.long.Goals as goal
 

@@ -1,6 +1,5 @@
 -- `block::motion::move_command` meets its contract.
 -- Assumes nothing.
-use borrow.Author.Rules.{rules}
 use Rattle.block.proofs.motion.move_command.Goals as goal
 
 pub returns-then-t : goal.returns-then-t

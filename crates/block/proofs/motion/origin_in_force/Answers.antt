@@ -1,7 +1,6 @@
 -- `block::motion::origin_in_force` meets its contract.
 -- Assumes nothing.
 use native.Mathlib.Omega.{arith}
-use borrow.Author.Rules.{rules}
 use Rattle.rules.proofs.Index.{system_within}
 use Rattle.block.proofs.motion.origin_in_force.Goals as goal
 

@@ -1,7 +1,6 @@
 -- `block::motion::target` meets its contract.
 -- Assumes nothing.
 use mathlib.Core.Path.{refl}
-use borrow.Author.Rules.{rules}
 use Rattle.block.proofs.motion.target.Goals as goal
 
 pub target_at-requires : goal.target_at-requires

@@ -1,7 +1,6 @@
 -- `block::motion::target_at` meets its contract.
 -- Assumes nothing.
 use mathlib.Core.Path.{◌∙◌}
-use borrow.Author.Rules.{rules}
 use borrow.Author.Tests.{eq-eqb, ne_eqb}
 use Rattle.rules.specs.Reach.{converted}
 use Rattle.block.proofs.Sums.{word_short, from_here, from_origin}

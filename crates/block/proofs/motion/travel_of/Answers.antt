@@ -1,8 +1,6 @@
 -- `block::motion::travel_of` meets its contract.
 -- Assumes nothing.
 use mathlib.Core.Path.{refl, sym, ◌∙◌}
-use borrow.Author.Rules.{rules}
-use borrow.Author.Tests.{not-true, not-false}
 use Rattle.rules.specs.Codes.{system_number}
 use Rattle.rules.specs.Steps.{target}
 use Rattle.rules.specs.Arcs.{arc_move, centre}

@@ -1,7 +1,6 @@
 -- `block::steps::coolant_with` meets its contract.
 -- Assumes nothing.
 use mathlib.Core.Path.{refl}
-use borrow.Author.Rules.{rules}
 use borrow.Author.Tests.{ne_eqb}
 use Rattle.block.proofs.steps.coolant_with.Goals as goal
 

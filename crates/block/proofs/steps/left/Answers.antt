@@ -1,7 +1,6 @@
 -- `block::steps::left` meets its contract.
 -- Assumes nothing.
 use mathlib.Core.Path.{refl, sym, ◌∙◌}
-use borrow.Author.Rules.{rules}
 use Rattle.rules.specs.Steps.{motion_step, stop_step}
 use Rattle.block.proofs.steps.left.Goals as goal
 

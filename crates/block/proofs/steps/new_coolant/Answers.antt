@@ -1,6 +1,5 @@
 -- `block::steps::new_coolant` meets its contract.
 -- Assumes nothing.
-use borrow.Author.Rules.{rules}
 use Rattle.block.proofs.steps.new_coolant.Goals as goal
 
 pub returns-then-c : goal.returns-then-c

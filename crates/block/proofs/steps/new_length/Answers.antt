@@ -1,6 +1,5 @@
 -- `block::steps::new_length` meets its contract.
 -- Assumes nothing.
-use borrow.Author.Rules.{rules}
 use Rattle.block.proofs.steps.new_length.Goals as goal
 
 pub returns-then-w : goal.returns-then-w

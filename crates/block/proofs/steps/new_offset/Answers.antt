@@ -1,7 +1,6 @@
 -- `block::steps::new_offset` meets its contract.
 -- Assumes nothing.
 use mathlib.Core.Path.{refl, sym, ◌∙◌}
-use borrow.Author.Rules.{rules}
 use Rattle.rules.specs.Codes.{system_number}
 use Rattle.rules.specs.Steps.{offset_step}
 use Rattle.block.specs.Bounds.{Under}

@@ -2,7 +2,6 @@
 -- Assumes nothing.
 use mathlib.Core.Path.{refl, sym, ◌∙◌}
 use native.Mathlib.Omega.{arith}
-use borrow.Author.Rules.{rules}
 use Rattle.rules.specs.Numbers.{whole}
 use Rattle.rules.specs.Steps.{origin_step}
 use Rattle.block.proofs.Modes.{wider, a_system}

@@ -1,6 +1,5 @@
 -- `block::steps::new_spindle` meets its contract.
 -- Assumes nothing.
-use borrow.Author.Rules.{rules}
 use Rattle.block.proofs.steps.new_spindle.Goals as goal
 
 pub returns-then-spindle : goal.returns-then-spindle

@@ -1,6 +1,5 @@
 -- `block::steps::new_tool` meets its contract.
 -- Assumes nothing.
-use borrow.Author.Rules.{rules}
 use Rattle.block.proofs.steps.new_tool.Goals as goal
 
 pub number-requires : goal.number-requires

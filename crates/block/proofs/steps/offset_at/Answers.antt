@@ -1,7 +1,6 @@
 -- `block::steps::offset_at` meets its contract.
 -- Assumes nothing.
 use mathlib.Core.Path.{◌∙◌}
-use borrow.Author.Rules.{rules}
 use Rattle.rules.specs.Reach.{converted}
 use Rattle.block.proofs.Sums.{word_short, new_offset_is}
 use Rattle.block.proofs.steps.offset_at.Goals as goal

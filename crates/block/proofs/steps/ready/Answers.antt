@@ -2,7 +2,6 @@
 -- Assumes nothing.
 use mathlib.Core.Path.{sym}
 use native.Mathlib.Omega.{arith}
-use borrow.Author.Rules.{rules}
 use Rattle.block.specs.Bounds.{Under}
 use Rattle.block.proofs.Bounds.{g10_under}
 use Rattle.block.proofs.Ready.{ready_is}

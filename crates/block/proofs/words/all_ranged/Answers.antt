@@ -1,7 +1,7 @@
 -- `block::words::all_ranged` meets its contract. The loop's invariant: the values passed are in range, so those still ahead decide.
 -- Assumes nothing.
 use mathlib.Core.Path.{◌≡◌, refl, sym, ap, ◌∙◌}
-use mathlib.Core.Bool.{true, false}
+use mathlib.Core.Bool.{true}
 use mathlib.Core.List.{List, [], ◌∷◌}
 use Prim.Native.Nat.{ℕ, zero, suc, ◌+◌, ◌-◌, ◌≤◌, ◌<◌}
 use native.Mathlib.Numerals.{add-one}
@@ -12,7 +12,6 @@ use lib.Seq.{drop-cons}
 use mir.Syntax.{w64}
 use mir.ValLaws.{to_z-of_z}
 use borrow.Author.Rules.{rules}
-use borrow.Author.Tests.{not-true, not-false}
 use Rattle.rules.specs.Numbers.{in_range}
 use Rattle.block.specs.Execution.{all_in_range}
 use Rattle.block.proofs.words.all_ranged.Goals as goal

@@ -1,7 +1,6 @@
 -- `checks::marks::any_axis` meets its contract.
 -- Assumes nothing.
 use mathlib.Core.Path.{refl}
-use borrow.Author.Rules.{rules}
 use Rattle.checks.proofs.marks.any_axis.Goals as goal
 
 pub returns : goal.returns

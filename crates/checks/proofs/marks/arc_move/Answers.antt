@@ -1,7 +1,6 @@
 -- `checks::marks::arc_move` meets its contract.
 -- Assumes nothing.
 use mathlib.Core.Path.{refl}
-use borrow.Author.Rules.{rules}
 use Rattle.rules.specs.Arcs.{arc_move}
 use Rattle.checks.proofs.marks.arc_move.Goals as goal
 

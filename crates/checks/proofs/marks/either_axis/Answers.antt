@@ -2,7 +2,6 @@
 -- Assumes nothing.
 use mathlib.Core.Path.{refl}
 use mathlib.Core.Bool.{or-false}
-use borrow.Author.Rules.{rules}
 use Rattle.checks.proofs.marks.either_axis.Goals as goal
 
 pub returns : goal.returns

@@ -1,7 +1,6 @@
 -- `checks::marks::moves` meets its contract.
 -- Assumes nothing.
 use mathlib.Core.Path.{refl}
-use borrow.Author.Rules.{rules}
 use Rattle.rules.specs.Block.{moves}
 use Rattle.checks.proofs.marks.moves.Goals as goal
 

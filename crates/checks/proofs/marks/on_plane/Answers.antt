@@ -1,10 +1,6 @@
 -- `checks::marks::on_plane` meets its contract.
 -- Assumes nothing.
-use mathlib.Core.Path.{ap, ◌∙◌}
-use borrow.Author.Rules.{rules}
-use Rattle.rules.specs.Block.{any_of}
-use Rattle.checks.specs.Modes.{word_at}
-use Rattle.checks.proofs.Axes.{plane_two, plane_axis}
+use Rattle.checks.proofs.Axes.{plane_axis}
 use Rattle.checks.proofs.marks.on_plane.Goals as goal
 
 pub either_axis-requires-clause-i_bound : goal.either_axis-requires-clause-i_bound

@@ -1,7 +1,6 @@
 -- `checks::mode::at_feed` meets its contract.
 -- Assumes nothing.
 use mathlib.Core.Path.{refl}
-use borrow.Author.Rules.{rules}
 use Rattle.checks.proofs.mode.at_feed.Goals as goal
 
 pub returns : goal.returns

@@ -1,7 +1,6 @@
 -- `checks::mode::wrong_mode` meets its contract.
 -- Assumes nothing.
 use mathlib.Core.Path.{refl}
-use borrow.Author.Rules.{rules}
 use Rattle.rules.specs.Refusals.{wrong_mode}
 use Rattle.checks.proofs.mode.wrong_mode.Goals as goal
 

@@ -1,7 +1,6 @@
 -- `checks::words::below_zero` meets its contract.
 -- Assumes nothing.
 use mathlib.Core.Path.{refl}
-use borrow.Author.Rules.{rules}
 use Rattle.checks.proofs.words.below_zero.Goals as goal
 
 pub returns : goal.returns

@@ -1,7 +1,6 @@
 -- `checks::words::early` meets its contract.
 -- Assumes nothing.
 use mathlib.Core.Path.{refl, sym, ◌∙◌}
-use borrow.Author.Rules.{rules}
 use Rattle.checks.proofs.words.early.Goals as goal
 
 pub returns-then-missing-idle : goal.returns-then-missing-idle

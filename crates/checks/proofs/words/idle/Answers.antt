@@ -1,7 +1,6 @@
 -- `checks::words::idle` meets its contract.
 -- Assumes nothing.
 use mathlib.Core.Path.{refl}
-use borrow.Author.Rules.{rules}
 use Rattle.rules.specs.Arcs.{arc_move}
 use Rattle.rules.specs.Refusals.{idle}
 use Rattle.checks.proofs.words.idle.Goals as goal

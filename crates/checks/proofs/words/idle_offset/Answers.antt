@@ -1,6 +1,5 @@
 -- `checks::words::idle_offset` meets its contract.
 -- Assumes nothing.
-use borrow.Author.Rules.{rules}
 use Rattle.checks.proofs.words.idle_offset.Goals as goal
 
 pub returns-then-arc : goal.returns-then-arc

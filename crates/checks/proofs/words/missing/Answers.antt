@@ -1,7 +1,6 @@
 -- `checks::words::missing` meets its contract.
 -- Assumes nothing.
 use mathlib.Core.Path.{refl}
-use borrow.Author.Rules.{rules}
 use Rattle.rules.specs.Arcs.{arc_move}
 use Rattle.rules.specs.Refusals.{missing}
 use Rattle.checks.proofs.words.missing.Goals as goal

@@ -3,7 +3,6 @@
 use mathlib.Core.Path.{sym}
 use mathlib.Core.Bool.{or-false}
 use borrow.Author.Tests.{eq-eqb, ne_eqb}
-use borrow.Author.Rules.{rules}
 use Rattle.rules.specs.Arcs.{plane_axes}
 use Rattle.checks.specs.Modes.{word_at}
 use Rattle.checks.proofs.words.off_plane.Goals as goal

@@ -1,12 +1,6 @@
 -- `checks::words::outside` meets its contract.
 -- Assumes nothing.
 use mathlib.Core.Path.{refl, sym, ◌∙◌}
-use native.Mathlib.Omega.{arith}
-use mir.Syntax.{w64}
-use mir.ValLaws.{to_z_pos}
-use borrow.Author.Rules.{rules}
-use Rattle.laws.proofs.Ints.{back}
-use Rattle.checks.proofs.Tests.{outside_is}
 use Rattle.checks.proofs.words.outside.Goals as goal
 
 pub returns-in-Nothing : goal.returns-in-Nothing

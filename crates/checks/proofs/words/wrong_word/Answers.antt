@@ -1,7 +1,6 @@
 -- `checks::words::wrong_word` meets its contract.
 -- Assumes nothing.
 use mathlib.Core.Path.{refl}
-use borrow.Author.Rules.{rules}
 use Rattle.rules.specs.Refusals.{wrong_word}
 use Rattle.checks.proofs.words.wrong_word.Goals as goal
 

@@ -1,6 +1,5 @@
 -- `codes::entry` meets its contract.
 -- Assumes nothing.
-use borrow.Author.Rules.{rules}
 use borrow.Author.Tests.{lt-ltb, le-ltb}
 use Rattle.codes.proofs.g_table.entry.Goals as goal
 

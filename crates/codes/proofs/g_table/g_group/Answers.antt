@@ -1,7 +1,6 @@
 -- `codes::g_group` meets its contract: one test of the whole table.
 -- Assumes nothing.
 use mathlib.Core.Path.{◌∙◌}
-use borrow.Author.Rules.{rules}
 use Rattle.rules.specs.Codes.{g_group, g_groups}
 use Rattle.codes.proofs.Tables.{listed_by}
 use Rattle.codes.proofs.g_table.g_group.Goals as goal

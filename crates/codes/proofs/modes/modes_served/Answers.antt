@@ -1,7 +1,6 @@
 -- `codes::modes::modes_served` meets its contract.
 -- Assumes nothing.
 use mathlib.Core.Path.{refl}
-use borrow.Author.Rules.{rules}
 use Rattle.codes.proofs.modes.modes_served.Goals as goal
 
 pub returns : goal.returns

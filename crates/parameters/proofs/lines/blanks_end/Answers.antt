@@ -1,16 +1,9 @@
 -- `parameters::lines::blanks_end` meets its contract: the bytes passed are blanks.
 -- Assumes nothing.
 use mathlib.Core.Path.{sym, ◌∙◌}
-use Prim.Native.Nat.{◌-◌}
 use native.Mathlib.Omega.{arith}
-use borrow.Author.Rules.{rules}
-use borrow.Author.Tests.{not-true, not-false}
-use lib.ListN.{length}
-use Rattle.rules.specs.Numbers.{within}
 use Rattle.grammar.specs.Derivation.{blank}
-use Rattle.parameters.specs.Places.{before}
-use Rattle.parameters.proofs.Cutting.{Run-to, run_none, run_end, run_stop, run_on}
-use Rattle.parameters.proofs.lines.is_blank.Reads as is-blank-reads
+use Rattle.parameters.proofs.Cutting.{run_none, run_end, run_stop, run_on}
 use Rattle.parameters.proofs.lines.blanks_end.Goals as goal
 
 pub loop-i-init : goal.loop-i-init

@@ -1,11 +1,6 @@
 -- `parameters::lines::is_allowed` meets its contract: each place has its range.
 -- Assumes nothing.
-use borrow.Author.Rules.{rules}
-use Rattle.rules.specs.Meaning.{negative}
-use Rattle.parameters.specs.Places.{before}
-use Rattle.parameters.specs.Reading.{given}
 use Rattle.parameters.proofs.Amounts.{allowed_size}
-use Rattle.parameters.proofs.lines.is_system.Reads as is-system-reads
 use Rattle.parameters.proofs.lines.is_allowed.Goals as goal
 
 pub returns-in-Entry : goal.returns-in-Entry

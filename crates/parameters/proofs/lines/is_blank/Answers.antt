@@ -1,7 +1,6 @@
 -- `parameters::lines::is_blank` meets its contract.
 -- Assumes nothing.
 use borrow.Author.Tests.{ne_eqb}
-use Rattle.parameters.specs.Places.{before}
 use Rattle.parameters.proofs.lines.is_blank.Goals as goal
 
 pub returns-in-32 : goal.returns-in-32

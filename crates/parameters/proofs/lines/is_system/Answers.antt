@@ -1,7 +1,6 @@
 -- `parameters::lines::is_system` meets its contract.
 -- Assumes nothing.
 use borrow.Author.Tests.{le-leb, lt-leb}
-use Rattle.parameters.specs.Places.{before}
 use Rattle.parameters.proofs.Amounts.{system_minus}
 use Rattle.parameters.proofs.lines.is_system.Goals as goal
 

@@ -3,14 +3,7 @@
 use Rattle.laws.proofs.Ints.{back}
 use mathlib.Core.Path.{sym, ◌∙◌}
 use borrow.Author.Rules.{rules}
-use borrow.Author.Tests.{not-true, not-false}
-use Rattle.parameters.specs.Places.{before}
-use Rattle.parameters.specs.Reading.{given}
-use Rattle.parameters.proofs.Amounts.{is_judged}
 use Rattle.parameters.proofs.Lining.{said_21, said_22_low, said_22_high, said_passed, said_23, said_value}
-use Rattle.parameters.proofs.lines.is_judged.Reads as is-judged-reads
-use Rattle.parameters.proofs.lines.value_for.Reads as value-for-reads
-use Rattle.parameters.proofs.places.stands_for.Reads as stands-for-reads
 use Rattle.parameters.proofs.lines.judged.Goals as goal
 
 pub returns-then-number-least : goal.returns-then-number-least

@@ -1,12 +1,7 @@
 -- `parameters::lines::next_line` meets its contract: the bytes passed hold no line feed.
 -- Assumes nothing.
-use Prim.Native.Nat.{◌-◌}
 use native.Mathlib.Omega.{arith}
-use lib.ListN.{length}
-use Rattle.rules.specs.Numbers.{within}
-use Rattle.parameters.specs.Places.{before}
-use Rattle.parameters.proofs.Cutting.{Cut-to, line_none, line_on, line_feed, line_end}
-use Rattle.parameters.proofs.lines.without_return.Reads as without-return-reads
+use Rattle.parameters.proofs.Cutting.{line_none, line_on, line_feed, line_end}
 use Rattle.parameters.proofs.lines.next_line.Goals as goal
 
 pub loop-i-init : goal.loop-i-init

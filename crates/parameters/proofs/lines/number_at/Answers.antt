@@ -1,12 +1,7 @@
 -- `parameters::lines::number_at` meets its contract: a sign, digits, and a point among them.
 -- Assumes nothing.
 use native.Mathlib.Omega.{arith}
-use borrow.Author.Rules.{rules}
-use Rattle.parameters.specs.Places.{before}
 use Rattle.parameters.proofs.Lining.{number_missing, number_whole, number_other, number_trailing, number_point, number_decimals}
-use Rattle.parameters.proofs.lines.digits_end.Reads as digits-end-reads
-use Rattle.parameters.proofs.lines.sign_at.Reads as sign-at-reads
-use Rattle.parameters.proofs.lines.trimmed_end.Reads as trimmed-end-reads
 use Rattle.parameters.proofs.lines.number_at.Goals as goal
 
 pub returns-then-whole-from : goal.returns-then-whole-from

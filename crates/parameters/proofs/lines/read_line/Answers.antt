@@ -3,19 +3,10 @@
 use mathlib.Core.Path.{sym, ap, ◌∙◌, subst}
 use mathlib.Core.List.{List}
 use Prim.Native.Nat.{ℕ, min}
-use borrow.Author.Rules.{rules}
-use Rattle.rules.specs.Numbers.{within}
 use Rattle.rules.specs.Meaning.{decimal}
 use Rattle.grammar.specs.Grammar.{digit}
-use Rattle.parameters.specs.Places.{before, judged}
-use Rattle.parameters.specs.Reading.{given}
 use Rattle.parameters.specs.Told.{SaidAs}
 use Rattle.parameters.proofs.Lining.{run_slice, number_here, nowhere_here, line_no_number, line_no_blank, line_no_value, line_entry}
-use Rattle.parameters.proofs.lines.blanks_end.Reads as blanks-end-reads
-use Rattle.parameters.proofs.lines.digits_end.Reads as digits-end-reads
-use Rattle.parameters.proofs.lines.judged.Reads as judged-reads
-use Rattle.parameters.proofs.lines.number_at.Reads as number-at-reads
-use Rattle.parameters.proofs.lines.worth.Reads as worth-reads
 use Rattle.parameters.proofs.lines.read_line.Goals as goal
 
 pub returns-then-digits-eq0 : goal.returns-then-digits-eq0

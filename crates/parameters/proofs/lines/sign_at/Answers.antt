@@ -1,7 +1,5 @@
 -- `parameters::lines::sign_at` meets its contract.
 -- Assumes nothing.
-use borrow.Author.Rules.{rules}
-use Rattle.parameters.specs.Places.{before}
 use Rattle.parameters.proofs.Cutting.{sign_past, plus_sign, minus_sign, no_sign}
 use Rattle.parameters.proofs.lines.sign_at.Goals as goal
 

@@ -3,12 +3,7 @@
 use lib.Seq.{slice, length-slice}
 use Prim.Native.Nat.{◌-◌}
 use native.Mathlib.Omega.{arith}
-use borrow.Author.Rules.{rules}
-use Rattle.parameters.specs.Places.{decimals, before}
-use Rattle.parameters.specs.Writing.{last}
 use Rattle.parameters.proofs.Amounts.{size_all}
-use Rattle.parameters.proofs.lines.with_zeros.Reads as with-zeros-reads
-use Rattle.parameters.proofs.lines.worth.Reads as worth-reads
 use Rattle.parameters.proofs.lines.size_in.Goals as goal
 
 pub returns : goal.returns

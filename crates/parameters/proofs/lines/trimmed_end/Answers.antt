@@ -1,8 +1,7 @@
 -- `parameters::lines::trimmed_end` meets its contract: the bytes passed are zeros.
 -- Assumes nothing.
 use native.Mathlib.Omega.{arith}
-use Rattle.parameters.specs.Places.{before}
-use Rattle.parameters.proofs.Cutting.{Trimmed-to, trim_start, trim_end, trim_stop, trim_on}
+use Rattle.parameters.proofs.Cutting.{trim_start, trim_end, trim_stop, trim_on}
 use Rattle.parameters.proofs.lines.trimmed_end.Goals as goal
 
 pub loop-end-init : goal.loop-end-init

@@ -1,8 +1,6 @@
 -- `parameters::lines::trimmed_end` meets its contract: the bytes passed are zeros.
 -- Assumes nothing.
-use native.Mathlib.Omega.{arith}
-use Rattle.parameters.specs.Places.{before}
-use Rattle.parameters.proofs.Cutting.{Trimmed-to, trim_start, trim_end, trim_stop, trim_on}
+use Rattle.parameters.proofs.Cutting.{Trimmed-to}
 use Rattle.parameters.proofs.lines.trimmed_end.Given as goal
 
 abbrev pub invariant-loop-end : goal.invariant-loop-end

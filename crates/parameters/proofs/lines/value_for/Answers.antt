@@ -3,13 +3,7 @@
 use Rattle.laws.proofs.Ints.{back}
 use mathlib.Core.Path.{sym, ◌∙◌}
 use borrow.Author.Rules.{rules}
-use borrow.Author.Tests.{not-true, not-false}
-use Rattle.parameters.specs.Places.{decimals, before}
 use Rattle.parameters.proofs.Amounts.{value_fine, value_far, value_good, is_judged}
-use Rattle.parameters.proofs.lines.is_allowed.Reads as is-allowed-reads
-use Rattle.parameters.proofs.lines.size_in.Reads as size-in-reads
-use Rattle.parameters.proofs.lines.with_sign.Reads as with-sign-reads
-use Rattle.parameters.proofs.places.decimals.Reads as decimals-reads
 use Rattle.parameters.proofs.lines.value_for.Goals as goal
 
 pub returns-then-places-parts : goal.returns-then-places-parts

@@ -5,8 +5,6 @@ use mir.Facts.{to_z_pos}
 use mir.Syntax.{w64}
 use Rattle.laws.proofs.Ints.{back, neg_fits, zero_minus}
 use native.Mathlib.Omega.{arith}
-use borrow.Author.Rules.{rules}
-use Rattle.parameters.specs.Places.{before}
 use Rattle.parameters.proofs.lines.with_sign.Goals as goal
 
 pub overflow_sub-result : goal.overflow_sub-result

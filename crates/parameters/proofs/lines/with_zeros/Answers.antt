@@ -1,9 +1,7 @@
 -- `parameters::lines::with_zeros` meets its contract: the zeros passed are in the number.
 -- Assumes nothing.
 use native.Mathlib.Omega.{arith}
-use Rattle.parameters.specs.Places.{before}
-use Rattle.parameters.proofs.Amounts.{Zeros-to, zeros_none, zeros_on, zeros_all}
-use Rattle.parameters.proofs.lines.with_digit.Reads as with-digit-reads
+use Rattle.parameters.proofs.Amounts.{zeros_none, zeros_on, zeros_all}
 use Rattle.parameters.proofs.lines.with_zeros.Goals as goal
 
 pub loop-left-init : goal.loop-left-init

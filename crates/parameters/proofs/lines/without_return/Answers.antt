@@ -1,8 +1,6 @@
 -- `parameters::lines::without_return` meets its contract.
 -- Assumes nothing.
 use native.Mathlib.Omega.{arith}
-use borrow.Author.Rules.{rules}
-use Rattle.parameters.specs.Places.{before}
 use Rattle.parameters.proofs.Cutting.{return_none, return_dropped, return_kept}
 use Rattle.parameters.proofs.lines.without_return.Goals as goal
 

@@ -1,19 +1,14 @@
 -- `parameters::load::fill_origins` meets its contract: the lengths passed are those of the file.
 -- Assumes nothing.
-use Rattle.laws.proofs.Ints.{back}
-use mathlib.Core.Path.{◌≡◌, ◌∙◌}
-use Prim.Native.Nat.{◌+◌, ◌-◌, ◌*◌, ◌/◌, ◌%◌, ◌≤◌}
-use native.Mathlib.Omega.{arith}
-use borrow.Author.Rules.{rules}
-use lib.ListN.{length, length-set}
-use Rattle.rules.specs.Numbers.{within}
+use mathlib.Core.Path.{◌≡◌}
+use Prim.Native.Nat.{◌-◌, ◌≤◌}
+use lib.ListN.{length}
 use Rattle.rules.specs.Reach.{nowhere}
 use Rattle.parameters.specs.Parse.{entries_at}
-use Rattle.parameters.specs.Places.{origin_number, before}
+use Rattle.parameters.specs.Places.{origin_number}
 use Rattle.parameters.specs.Reading.{renewed, length_from}
 use Rattle.parameters.specs.Told.{Remains}
-use Rattle.parameters.proofs.Going.{remains_on, remains_join, Filling, fill_next, fill_all, lengths_long, lengths_first, lengths_next, from_start, origin_judged}
-use Rattle.parameters.proofs.load.value_at.Reads as value-at-reads
+use Rattle.parameters.proofs.Going.{Filling}
 use Rattle.parameters.proofs.load.fill_origins.Given as goal
 
 abbrev pub invariant-loop-i : goal.invariant-loop-i

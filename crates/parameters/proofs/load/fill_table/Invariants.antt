@@ -1,19 +1,13 @@
 -- `parameters::load::fill_table` meets its contract: the entries passed are those of the file.
 -- Assumes nothing.
-use Rattle.laws.proofs.Ints.{back}
-use mathlib.Core.Path.{◌≡◌, ◌∙◌}
-use Prim.Native.Nat.{◌+◌, ◌-◌, ◌≤◌}
-use native.Mathlib.Omega.{arith}
-use borrow.Author.Rules.{rules}
+use mathlib.Core.Path.{◌≡◌}
+use Prim.Native.Nat.{◌-◌, ◌≤◌}
 use lib.IntN.{pos}
 use lib.ListN.{length}
-use Rattle.rules.specs.Numbers.{within}
 use Rattle.parameters.specs.Parse.{entries_at}
-use Rattle.parameters.specs.Places.{before}
 use Rattle.parameters.specs.Reading.{table_from}
 use Rattle.parameters.specs.Told.{Remains}
-use Rattle.parameters.proofs.Going.{remains_start, remains_on, remains_join, Filling, fill_next, fill_all, table_long, table_first, table_next, from_start, entry_judged}
-use Rattle.parameters.proofs.load.value_at.Reads as value-at-reads
+use Rattle.parameters.proofs.Going.{Filling}
 use Rattle.parameters.proofs.load.fill_table.Given as goal
 
 abbrev pub invariant-loop-n : goal.invariant-loop-n

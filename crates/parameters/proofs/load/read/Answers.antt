@@ -5,19 +5,9 @@ use mathlib.Core.Path.{refl, sym, ap, ◌∙◌}
 use native.Mathlib.Omega.{arith}
 use borrow.Author.Rules.{rules}
 use lib.IntN.{nat_abs}
-use Rattle.rules.specs.Numbers.{within}
-use Rattle.parameters.specs.Places.{before}
 use Rattle.parameters.specs.Reading.{system_code}
 use Rattle.parameters.proofs.Going.{remains_on, remains_join, from_start, system_judged, read_1, read_refused_with, read_0}
 use Rattle.parameters.proofs.RoundTrip.{ordered}
-use Rattle.parameters.proofs.load.fill_offset.Reads as fill-offset-reads
-use Rattle.parameters.proofs.load.fill_origins.Reads as fill-origins-reads
-use Rattle.parameters.proofs.load.fill_table.Reads as fill-table-reads
-use Rattle.parameters.proofs.load.judge.Reads as judge-reads
-use Rattle.parameters.proofs.load.system_code.Reads as system-code-reads
-use Rattle.parameters.proofs.load.value_at.Reads as value-at-reads
-use Rattle.parameters.proofs.save.is_disordered.Reads as is-disordered-reads
-use Rattle.value.proofs.size_of.Reads as size-of-reads
 use Rattle.parameters.proofs.load.read.Goals as goal
 
 pub shape_of-table-then-is_disordered : goal.shape_of-table-then-is_disordered

@@ -1,6 +1,5 @@
 -- `parameters::load::system_code` meets its contract.
 -- Assumes nothing.
-use Rattle.parameters.specs.Places.{before}
 use Rattle.parameters.proofs.Going.{system_other}
 use Rattle.parameters.proofs.load.system_code.Goals as goal
 

@@ -1,7 +1,6 @@
 -- `parameters::load::unsaid` meets its contract.
 -- Assumes nothing.
 use borrow.Author.Tests.{eq-eqb, ne_eqb}
-use Rattle.parameters.specs.Places.{before}
 use Rattle.parameters.proofs.load.unsaid.Goals as goal
 
 pub returns-then-number-eq5220 : goal.returns-then-number-eq5220

@@ -2,21 +2,10 @@
 -- Assumes nothing.
 use Rattle.laws.proofs.Ints.{back}
 use mathlib.Core.Path.{◌∙◌}
-use Prim.Native.Nat.{◌-◌}
 use native.Mathlib.Omega.{arith}
 use borrow.Author.Rules.{rules}
-use lib.ListN.{length}
-use Rattle.rules.specs.Numbers.{within}
-use Rattle.parameters.specs.Places.{before}
-use Rattle.parameters.specs.Reading.{unsaid, given}
-use Rattle.parameters.specs.Told.{Remains}
-use Rattle.parameters.specs.Writing.{last}
 use Rattle.parameters.proofs.Going.{remains_start, value_end, value_refused, value_behind, value_here, value_before}
 use Rattle.parameters.proofs.Lining.{part_said}
-use Rattle.parameters.proofs.Model.{found}
-use Rattle.parameters.proofs.lines.next_line.Reads as next-line-reads
-use Rattle.parameters.proofs.lines.read_line.Reads as read-line-reads
-use Rattle.parameters.proofs.load.unsaid.Reads as unsaid-reads
 use Rattle.parameters.proofs.load.value_at.Goals as goal
 
 pub loop-i-init : goal.loop-i-init

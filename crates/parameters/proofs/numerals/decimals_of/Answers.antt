@@ -1,7 +1,7 @@
 -- `parameters::numerals::decimals_of` meets its contract.
 -- Assumes nothing.
-use mathlib.Core.Path.{◌≡◌, refl, sym, subst}
-use Prim.Native.Nat.{ℕ, ◌%◌}
+use mathlib.Core.Path.{◌≡◌, subst}
+use Prim.Native.Nat.{ℕ}
 use native.Mathlib.Omega.{arith}
 use Rattle.parameters.proofs.Puts.{Cutting, cut_start, cut_on, cut_stop, cut_end}
 use Rattle.parameters.proofs.numerals.decimals_of.Goals as goal

@@ -1,10 +1,6 @@
 -- `parameters::numerals::digit_count` meets its contract.
 -- Assumes nothing.
-use mathlib.Core.Path.{◌≡◌, refl}
-use Prim.Native.Nat.{ℕ, ◌+◌, ◌≤◌}
 use native.Mathlib.Omega.{arith}
-use lib.ListN.{length}
-use Rattle.parameters.specs.Writing.{digits_of}
 use Rattle.parameters.proofs.Puts.{count_one, count_step}
 use Rattle.parameters.proofs.numerals.digit_count.Goals as goal
 

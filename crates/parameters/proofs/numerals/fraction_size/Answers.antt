@@ -4,8 +4,6 @@ use mathlib.Core.Path.{sym, ap}
 use native.Mathlib.Omega.{arith}
 use lib.ListN.{length}
 use Rattle.parameters.proofs.Puts.{fraction_none, fraction_size, fraction_small}
-use borrow.Author.Rules.{rules}
-use Rattle.parameters.proofs.numerals.decimals_of.Reads as decimals-of-reads
 use Rattle.parameters.proofs.numerals.fraction_size.Goals as goal
 
 pub returns-then-count-eq0 : goal.returns-then-count-eq0

@@ -6,11 +6,6 @@ use Prim.Native.Nat.{ℕ}
 use lib.ListN.{length}
 use Rattle.parameters.specs.Writing.{digits_of}
 use Rattle.parameters.proofs.Puts.{number_size}
-use borrow.Author.Rules.{rules}
-use Rattle.parameters.proofs.numerals.digit_count.Reads as digit-count-reads
-use Rattle.parameters.proofs.numerals.fraction_size.Reads as fraction-size-reads
-use Rattle.parameters.proofs.numerals.sign_size.Reads as sign-size-reads
-use Rattle.parameters.proofs.numerals.whole_part.Reads as whole-part-reads
 use Rattle.parameters.proofs.numerals.number_size.Goals as goal
 
 pub returns : goal.returns

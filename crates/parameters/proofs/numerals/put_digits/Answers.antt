@@ -1,13 +1,12 @@
 -- `parameters::numerals::put_digits` meets its contract.
 -- Assumes nothing.
 use mathlib.Core.Path.{◌≡◌, refl, sym, ap, ◌∙◌}
-use Prim.Native.Nat.{ℕ, ◌+◌, ◌-◌, ◌/◌, ◌≤◌}
+use Prim.Native.Nat.{ℕ, ◌+◌, ◌-◌, ◌/◌}
 use native.Mathlib.Omega.{arith}
 use lib.Seq.{sets}
-use lib.ListN.{length, length-set, set}
-use Rattle.parameters.specs.Writing.{last, last_digit}
+use lib.ListN.{length-set, set}
+use Rattle.parameters.specs.Writing.{last}
 use Rattle.parameters.proofs.Puts.{digit_put}
-use Rattle.parameters.proofs.numerals.digit.Reads as digit-reads
 use Rattle.parameters.proofs.numerals.put_digits.Goals as goal
 
 pub loop-left-init : goal.loop-left-init

@@ -1,13 +1,10 @@
 -- `parameters::numerals::put_digits` meets its contract.
 -- Assumes nothing.
-use mathlib.Core.Path.{◌≡◌, refl, sym, ap, ◌∙◌}
-use Prim.Native.Nat.{ℕ, ◌+◌, ◌-◌, ◌/◌, ◌≤◌}
-use native.Mathlib.Omega.{arith}
+use mathlib.Core.Path.{◌≡◌}
+use Prim.Native.Nat.{◌≤◌}
 use lib.Seq.{sets}
-use lib.ListN.{length, length-set, set}
-use Rattle.parameters.specs.Writing.{last, last_digit}
-use Rattle.parameters.proofs.Puts.{digit_put}
-use Rattle.parameters.proofs.numerals.digit.Reads as digit-reads
+use lib.ListN.{length}
+use Rattle.parameters.specs.Writing.{last}
 use Rattle.parameters.proofs.numerals.put_digits.Given as goal
 
 abbrev pub invariant-loop-left : goal.invariant-loop-left

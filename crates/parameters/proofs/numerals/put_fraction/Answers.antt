@@ -5,9 +5,6 @@ use native.Mathlib.Omega.{arith}
 use lib.ListN.{length-set}
 use Rattle.grammar.specs.Bytes.{byte}
 use Rattle.parameters.proofs.Puts.{decimals_text, none_put, fraction_none, fraction_size, fraction_put}
-use borrow.Author.Rules.{rules}
-use Rattle.parameters.proofs.numerals.decimals_of.Reads as decimals-of-reads
-use Rattle.parameters.proofs.numerals.put_digits.Reads as put-digits-reads
 use Rattle.parameters.proofs.numerals.put_fraction.Goals as goal
 
 pub returns-then-count-eq0 : goal.returns-then-count-eq0

@@ -1,19 +1,14 @@
 -- `parameters::numerals::put_number` meets its contract.
 -- Assumes nothing.
-use mathlib.Core.Path.{refl, sym, ap, ◌∙◌}
+use mathlib.Core.Path.{sym, ap, ◌∙◌}
 use mathlib.Core.List.{◌++◌}
 use Prim.Native.Nat.{ℕ}
 use lib.ListN.{length}
 use Rattle.grammar.specs.Grammar.{write_number}
 use Rattle.rules.specs.Numbers.{signed}
 use native.Mathlib.Omega.{arith}
-use Rattle.parameters.specs.Writing.{digits_of, without, shortest}
+use Rattle.parameters.specs.Writing.{digits_of, shortest}
 use Rattle.parameters.proofs.Puts.{sign_text, decimals_text, number_text, number_size, three_put}
-use borrow.Author.Rules.{rules}
-use Rattle.parameters.proofs.numerals.put_fraction.Reads as put-fraction-reads
-use Rattle.parameters.proofs.numerals.put_sign.Reads as put-sign-reads
-use Rattle.parameters.proofs.numerals.put_whole.Reads as put-whole-reads
-use Rattle.parameters.proofs.numerals.whole_part.Reads as whole-part-reads
 use Rattle.parameters.proofs.numerals.put_number.Goals as goal
 
 pub put_sign-first-requires : goal.put_sign-first-requires

@@ -3,10 +3,8 @@
 use mathlib.Core.Path.{refl, ap}
 use native.Mathlib.Omega.{arith}
 use lib.ListN.{length}
-use borrow.Author.Tests.{not-true, not-false}
 use Rattle.grammar.specs.Bytes.{byte}
 use Rattle.parameters.proofs.Puts.{sign_text, none_put, one_put, sign_none, sign_plain, sign_minus}
-use borrow.Author.Rules.{rules}
 use Rattle.parameters.proofs.numerals.put_sign.Goals as goal
 
 pub returns-then-size-eq0 : goal.returns-then-size-eq0

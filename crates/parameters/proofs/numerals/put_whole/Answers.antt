@@ -1,9 +1,6 @@
 -- `parameters::numerals::put_whole` meets its contract.
 -- Assumes nothing.
 use Rattle.parameters.proofs.Puts.{whole_put}
-use borrow.Author.Rules.{rules}
-use Rattle.parameters.proofs.numerals.digit_count.Reads as digit-count-reads
-use Rattle.parameters.proofs.numerals.put_digits.Reads as put-digits-reads
 use Rattle.parameters.proofs.numerals.put_whole.Goals as goal
 
 pub returns : goal.returns

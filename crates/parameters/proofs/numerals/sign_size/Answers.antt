@@ -3,7 +3,6 @@
 use mathlib.Core.Path.{sym, ap}
 use native.Mathlib.Omega.{arith}
 use lib.ListN.{length}
-use borrow.Author.Tests.{not-true, not-false}
 use Rattle.parameters.proofs.Puts.{sign_none, sign_plain, sign_minus}
 use Rattle.parameters.proofs.numerals.sign_size.Goals as goal
 

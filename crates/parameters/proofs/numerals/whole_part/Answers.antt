@@ -1,7 +1,7 @@
 -- `parameters::numerals::whole_part` meets its contract.
 -- Assumes nothing.
 use mathlib.Core.Path.{◌≡◌, refl, sym, ap, ◌∙◌}
-use Prim.Native.Nat.{ℕ, ◌≤◌}
+use Prim.Native.Nat.{ℕ}
 use native.Mathlib.Omega.{arith}
 use Rattle.parameters.specs.Writing.{without}
 use Rattle.parameters.proofs.Puts.{without_step}

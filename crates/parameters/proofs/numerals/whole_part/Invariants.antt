@@ -1,10 +1,8 @@
 -- `parameters::numerals::whole_part` meets its contract.
 -- Assumes nothing.
-use mathlib.Core.Path.{◌≡◌, refl, sym, ap, ◌∙◌}
-use Prim.Native.Nat.{ℕ, ◌≤◌}
-use native.Mathlib.Omega.{arith}
+use mathlib.Core.Path.{◌≡◌}
+use Prim.Native.Nat.{◌≤◌}
 use Rattle.parameters.specs.Writing.{without}
-use Rattle.parameters.proofs.Puts.{without_step}
 use Rattle.parameters.proofs.numerals.whole_part.Given as goal
 
 abbrev pub invariant-loop-left : goal.invariant-loop-left

@@ -3,9 +3,7 @@
 use mathlib.Core.Path.{refl}
 use Prim.Native.Nat.{◌%◌}
 use native.Mathlib.Omega.{arith}
-use borrow.Author.Rules.{rules}
 use borrow.Author.Tests.{lt-ltb, le-ltb}
-use Rattle.parameters.specs.Places.{before}
 use Rattle.parameters.proofs.Examples.{}
 use Rattle.parameters.proofs.places.origin_at.Goals as goal
 

@@ -3,10 +3,7 @@
 use Rattle.parameters.proofs.Standing.{none_there, entry_there, none_behind, offset_there, system_there, none_between, none_after, origin_there}
 use mathlib.Core.Path.{◌∙◌}
 use native.Mathlib.Omega.{arith}
-use borrow.Author.Rules.{rules}
-use Rattle.parameters.specs.Places.{before}
 use Rattle.parameters.proofs.Examples.{}
-use Rattle.parameters.proofs.places.origin_at.Reads as origin-at-reads
 use Rattle.parameters.proofs.places.stands_for.Goals as goal
 
 pub returns-then-number-lt1 : goal.returns-then-number-lt1

@@ -2,19 +2,14 @@
 -- Assumes nothing.
 use mir.Syntax.{w64}
 use mir.ValLaws.{to_z-of_z}
-use mathlib.Core.Path.{◌≡◌, refl, sym, ap, ◌∙◌}
-use Prim.Native.Nat.{◌-◌, ◌≤◌}
+use mathlib.Core.Path.{refl, sym, ap, ◌∙◌}
 use native.Mathlib.Omega.{arith}
 use borrow.Author.Rules.{rules}
-use borrow.Author.Tests.{not-true, not-false}
 use lib.IntN.{pos}
-use lib.ListN.{length, get_or, drop}
+use lib.ListN.{get_or}
 use Rattle.rules.specs.Numbers.{in_range}
-use Rattle.parameters.specs.Places.{before}
-use Rattle.parameters.specs.Writing.{all_in_range}
 use Rattle.parameters.proofs.Examples.{}
 use Rattle.parameters.proofs.Saving.{range_fails, range_on, range_ends}
-use Rattle.value.proofs.in_range.Reads as in-range-reads
 use Rattle.parameters.proofs.save.all_in_range.Goals as goal
 
 pub loop-n-init : goal.loop-n-init

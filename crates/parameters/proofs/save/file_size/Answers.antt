@@ -4,18 +4,13 @@ use Rattle.laws.proofs.Ints.{back}
 use mir.Val.{to_z, of_z}
 use mir.Syntax.{w64}
 use mathlib.Core.Path.{◌≡◌, sym, ap, ◌∙◌}
-use mathlib.Core.Logic.{⊎_elim}
-use Prim.Native.Nat.{◌+◌, ◌-◌, ◌*◌, ◌≤◌}
+use Prim.Native.Nat.{◌+◌}
 use native.Mathlib.Omega.{arith}
 use borrow.Author.Rules.{rules}
 use lib.ListN.{length, length-append}
-use Rattle.parameters.specs.Places.{before}
-use Rattle.parameters.specs.Writing.{held, line_for, file}
+use Rattle.parameters.specs.Writing.{held, line_for}
 use Rattle.parameters.proofs.Examples.{}
 use Rattle.parameters.proofs.Saving.{held_small, rest_from, rest_first, rest_last, rest_said, rest_unsaid}
-use Rattle.parameters.proofs.save.held.Reads as held_reads
-use Rattle.parameters.proofs.save.is_said.Reads as is-said-reads
-use Rattle.parameters.proofs.save.line_size.Reads as line-size-reads
 use Rattle.parameters.proofs.save.file_size.Goals as goal
 use Rattle.parameters.proofs.save.file_size.Goals.{then-is_said, else-is_said}
 
@@ -44,6 +39,6 @@ loop-number-preserved c =
     let z = to_z w64 (of_z w64 c.held-amount.result) in
     let q : z ≡ held c.args.rec c.args.table.now c.loop-number.number = back c.held-amount.result (search rules) ∙ c.held-amount.ensures in
     elim c.if-is_said.branch [
-      then-is_said w ↦ (omega arith, omega arith, omega (arith, w.line_size-size.ensures.1), omega (arith, w.line_size-size.ensures.0, ap length (rest_said c.args.rec c.args.table.now c.loop-number.number (omega arith) q (sym c.is_said.ensures ∙ w.if-is_said.true)), length-append (line_for c.loop-number.number z) (rest_from c.args.rec c.args.table.now (c.loop-number.number + 1))))
-    | else-is_said w ↦ (omega arith, omega arith, omega arith, omega (arith, ap length (rest_unsaid c.args.rec c.args.table.now c.loop-number.number (omega arith) q (sym c.is_said.ensures ∙ w.if-is_said.false))))
+      | then-is_said w ↦ (omega arith, omega arith, omega (arith, w.line_size-size.ensures.1), omega (arith, w.line_size-size.ensures.0, ap length (rest_said c.args.rec c.args.table.now c.loop-number.number (omega arith) q (sym c.is_said.ensures ∙ w.if-is_said.true)), length-append (line_for c.loop-number.number z) (rest_from c.args.rec c.args.table.now (c.loop-number.number + 1))))
+      | else-is_said w ↦ (omega arith, omega arith, omega arith, omega (arith, ap length (rest_unsaid c.args.rec c.args.table.now c.loop-number.number (omega arith) q (sym c.is_said.ensures ∙ w.if-is_said.false))))
     ]

@@ -7,15 +7,8 @@ use mathlib.Core.Path.{refl, sym, ap, ◌∙◌}
 use native.Mathlib.Omega.{arith}
 use borrow.Author.Rules.{rules}
 use lib.IntN.{pos}
-use Rattle.parameters.specs.Places.{before}
-use Rattle.parameters.specs.Reading.{given}
 use Rattle.parameters.proofs.Examples.{}
 use Rattle.parameters.proofs.Saving.{held_at_holds}
-use Rattle.codes.proofs.system_number.Reads as system-number-reads
-use Rattle.parameters.proofs.places.stands_for.Reads as stands-for-reads
-use Rattle.parameters.proofs.save.entry_at.Reads as entry-at-reads
-use Rattle.parameters.proofs.save.offset_at.Reads as offset-at-reads
-use Rattle.parameters.proofs.save.origin_at.Reads as origin-at-reads
 use Rattle.parameters.proofs.save.held.Goals as goal
 
 pub returns-in-Entry : goal.returns-in-Entry

@@ -1,10 +1,7 @@
 -- `parameters::save::is_disordered` meets its contract.
 -- Assumes nothing.
-use borrow.Author.Rules.{rules}
-use Rattle.parameters.specs.Places.{before}
 use Rattle.parameters.proofs.Examples.{}
 use Rattle.parameters.proofs.Saving.{disorder_long, disorder_by}
-use Rattle.record.proofs.in_order.Reads as in-order-reads
 use Rattle.parameters.proofs.save.is_disordered.Goals as goal
 
 pub returns-then-table-ne5000 : goal.returns-then-table-ne5000

@@ -4,10 +4,8 @@ use Rattle.laws.proofs.Ints.{back}
 use mathlib.Core.Path.{ap, ◌∙◌}
 use borrow.Author.Rules.{rules}
 use lib.IntN.{nat_abs}
-use Rattle.parameters.specs.Places.{before}
 use Rattle.parameters.proofs.Examples.{}
 use Rattle.parameters.proofs.Saving.{said_amount, said_system}
-use Rattle.value.proofs.size_of.Reads as size-of-reads
 use Rattle.parameters.proofs.save.is_said.Goals as goal
 
 pub returns-then-size_of-ne0 : goal.returns-then-size_of-ne0

@@ -6,16 +6,8 @@ use native.Mathlib.Omega.{arith}
 use borrow.Author.Rules.{rules}
 use lib.IntN.{nat_abs}
 use Rattle.rules.specs.Numbers.{minus}
-use Rattle.parameters.specs.Places.{decimals, before}
 use Rattle.parameters.proofs.Examples.{}
-use Rattle.parameters.proofs.Puts.{number_size}
 use Rattle.parameters.proofs.Saving.{number_of_holds, line_length, few_decimals}
-use Rattle.parameters.proofs.numerals.digit_count.Reads as digit-count-reads
-use Rattle.parameters.proofs.numerals.number_size.Reads as number-size-reads
-use Rattle.parameters.proofs.places.decimals.Reads as decimals-reads
-use Rattle.parameters.proofs.places.stands_for.Reads as stands-for-reads
-use Rattle.value.proofs.is_below_zero.Reads as is-below-zero-reads
-use Rattle.value.proofs.size_of.Reads as size-of-reads
 use Rattle.parameters.proofs.save.line_size.Goals as goal
 
 pub number_size-size-requires : goal.number_size-size-requires

@@ -3,10 +3,8 @@
 use lib.ListN.{get_or-eq_default}
 use mathlib.Core.Path.{sym, ap}
 use native.Mathlib.Omega.{arith}
-use borrow.Author.Rules.{rules}
 use Rattle.rules.specs.Reach.{nowhere}
 use Rattle.rules.specs.declared.Length.{Length}
-use Rattle.parameters.specs.Places.{before}
 use Rattle.parameters.proofs.Examples.{}
 use Rattle.parameters.proofs.save.offset_at.Goals as goal
 

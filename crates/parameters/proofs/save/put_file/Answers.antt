@@ -4,19 +4,14 @@ use Rattle.laws.proofs.Ints.{back}
 use mir.Val.{to_z, of_z}
 use mir.Syntax.{w64}
 use mathlib.Core.Path.{◌≡◌, refl, sym, ap, ◌∙◌}
-use mathlib.Core.Logic.{⊎_elim}
-use Prim.Native.Nat.{◌+◌, ◌-◌, ◌≤◌}
+use Prim.Native.Nat.{◌+◌}
 use native.Mathlib.Omega.{arith}
 use borrow.Author.Rules.{rules}
 use lib.ListN.{length, length-append}
 use lib.Seq.{sets, length-sets}
-use Rattle.parameters.specs.Places.{before}
-use Rattle.parameters.specs.Writing.{held, line_for, file}
+use Rattle.parameters.specs.Writing.{held, line_for}
 use Rattle.parameters.proofs.Examples.{}
 use Rattle.parameters.proofs.Saving.{rest_from, rest_first, rest_last, rest_said, rest_unsaid, put_on, none_on}
-use Rattle.parameters.proofs.save.held.Reads as held_reads
-use Rattle.parameters.proofs.save.is_said.Reads as is-said-reads
-use Rattle.parameters.proofs.save.put_line.Reads as put-line-reads
 use Rattle.parameters.proofs.save.put_file.Goals as goal
 use Rattle.parameters.proofs.save.put_file.Goals.{then-is_said, else-is_said}
 
@@ -48,10 +43,10 @@ loop-number-preserved c =
     let z = to_z w64 (of_z w64 c.held-amount.result) in
     let q : z ≡ held c.args.rec c.args.table.now c.loop-number.number = back c.held-amount.result (search rules) ∙ c.held-amount.ensures in
     elim c.if-is_said.branch [
-      then-is_said w ↦
-    let e = rest_said c.args.rec c.args.table.now c.loop-number.number (omega arith) q (sym c.is_said.ensures ∙ w.if-is_said.true) in
-    (omega arith, omega arith, ap length (w.out-is ∙ w.put_line-at.ensures.1) ∙ length-sets c.loop-number.out c.loop-number.at (line_for c.loop-number.number z) ∙ c.loop-number.invariant.2, omega (arith, w.at-is, w.put_line-at.ensures.0, c.loop-number.invariant.3, ap length e, length-append (line_for c.loop-number.number z) (rest_from c.args.rec c.args.table.now (c.loop-number.number + 1))), put_on c.loop-number.out c.loop-number.at (line_for c.loop-number.number z) (rest_from c.args.rec c.args.table.now (c.loop-number.number + 1)) (w.out-is ∙ w.put_line-at.ensures.1) (w.at-is ∙ w.put_line-at.ensures.0) e ∙ c.loop-number.invariant.4)
-    | else-is_said w ↦
-    let e = rest_unsaid c.args.rec c.args.table.now c.loop-number.number (omega arith) q (sym c.is_said.ensures ∙ w.if-is_said.false) in
-    (omega arith, omega arith, ap length w.out-is ∙ c.loop-number.invariant.2, omega (arith, w.at-is, c.loop-number.invariant.3, ap length e), none_on c.loop-number.out c.loop-number.at (rest_from c.args.rec c.args.table.now (c.loop-number.number + 1)) w.out-is w.at-is e ∙ c.loop-number.invariant.4)
+      | then-is_said w ↦
+          let e = rest_said c.args.rec c.args.table.now c.loop-number.number (omega arith) q (sym c.is_said.ensures ∙ w.if-is_said.true) in
+          (omega arith, omega arith, ap length (w.out-is ∙ w.put_line-at.ensures.1) ∙ length-sets c.loop-number.out c.loop-number.at (line_for c.loop-number.number z) ∙ c.loop-number.invariant.2, omega (arith, w.at-is, w.put_line-at.ensures.0, c.loop-number.invariant.3, ap length e, length-append (line_for c.loop-number.number z) (rest_from c.args.rec c.args.table.now (c.loop-number.number + 1))), put_on c.loop-number.out c.loop-number.at (line_for c.loop-number.number z) (rest_from c.args.rec c.args.table.now (c.loop-number.number + 1)) (w.out-is ∙ w.put_line-at.ensures.1) (w.at-is ∙ w.put_line-at.ensures.0) e ∙ c.loop-number.invariant.4)
+      | else-is_said w ↦
+          let e = rest_unsaid c.args.rec c.args.table.now c.loop-number.number (omega arith) q (sym c.is_said.ensures ∙ w.if-is_said.false) in
+          (omega arith, omega arith, ap length w.out-is ∙ c.loop-number.invariant.2, omega (arith, w.at-is, c.loop-number.invariant.3, ap length e), none_on c.loop-number.out c.loop-number.at (rest_from c.args.rec c.args.table.now (c.loop-number.number + 1)) w.out-is w.at-is e ∙ c.loop-number.invariant.4)
     ]

@@ -7,16 +7,8 @@ use borrow.Author.Rules.{rules}
 use lib.IntN.{nat_abs}
 use lib.ListN.{length-set}
 use Rattle.rules.specs.Numbers.{minus}
-use Rattle.parameters.specs.Places.{decimals, before}
-use Rattle.parameters.specs.Writing.{last}
 use Rattle.parameters.proofs.Examples.{}
 use Rattle.parameters.proofs.Saving.{number_of_holds, line_length, line_put}
-use Rattle.parameters.proofs.numerals.put_number.Reads as put-number-reads
-use Rattle.parameters.proofs.numerals.put_whole.Reads as put-whole-reads
-use Rattle.parameters.proofs.places.decimals.Reads as decimals-reads
-use Rattle.parameters.proofs.places.stands_for.Reads as stands-for-reads
-use Rattle.value.proofs.is_below_zero.Reads as is-below-zero-reads
-use Rattle.value.proofs.size_of.Reads as size-of-reads
 use Rattle.parameters.proofs.save.put_line.Goals as goal
 
 pub put_whole-space-requires : goal.put_whole-space-requires

@@ -2,16 +2,8 @@
 -- Assumes nothing.
 use mathlib.Core.Path.{sym, ◌∙◌}
 use native.Mathlib.Omega.{arith}
-use borrow.Author.Rules.{rules}
-use borrow.Author.Tests.{not-true, not-false}
-use Rattle.parameters.specs.Places.{before}
 use Rattle.parameters.proofs.Examples.{}
 use Rattle.parameters.proofs.Saving.{saved_1, saved_23, saved_24, saved_0, saved_as}
-use Rattle.parameters.proofs.save.all_in_range.Reads as all-in-range-reads
-use Rattle.parameters.proofs.save.file_size.Reads as file-size-reads
-use Rattle.parameters.proofs.save.is_disordered.Reads as is-disordered-reads
-use Rattle.parameters.proofs.save.put_file.Reads as put-file-reads
-use Rattle.parameters.proofs.save.unwritten.Reads as unwritten-reads
 use Rattle.parameters.proofs.save.write.Goals as goal
 
 pub returns-then-is_disordered : goal.returns-then-is_disordered

@@ -1,7 +1,4 @@
 use Rattle.reader.proofs.Itemising.{equals_within, amount_past, amount_none}
-use borrow.Author.Rules.{rules}
-use Rattle.reader.proofs.passage.pass_value.Reads as pass-value-reads
-use Rattle.reader.proofs.spelling.keyword.Reads as keyword-reads
 use Rattle.reader.proofs.items.amount_end.Goals as goal
 
 pub pass_value-requires : goal.pass_value-requires

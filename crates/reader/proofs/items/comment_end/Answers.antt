@@ -1,7 +1,4 @@
 use Rattle.reader.proofs.Itemising.{remarks_on, comment_ends}
-use borrow.Author.Rules.{rules}
-use Rattle.reader.proofs.items.remarks_end.Reads as remarks-end-reads
-use Rattle.reader.proofs.spelling.keyword.Reads as keyword-reads
 use Rattle.reader.proofs.items.comment_end.Goals as goal
 
 pub keyword-requires : goal.keyword-requires

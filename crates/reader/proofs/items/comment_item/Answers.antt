@@ -1,4 +1,3 @@
-use borrow.Author.Rules.{rules}
 use Rattle.reader.proofs.items.comment_item.Goals as goal
 
 pub returns-in-To : goal.returns-in-To

@@ -1,5 +1,3 @@
-use mathlib.Core.Path.{sym, ◌∙◌}
-use native.Mathlib.Omega.{arith}
 use Rattle.reader.proofs.Itemising.{remark_high, remark_low}
 use Rattle.reader.proofs.items.is_remark.Goals as goal
 

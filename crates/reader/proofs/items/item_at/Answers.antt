@@ -1,12 +1,5 @@
 use mathlib.Core.Path.{sym, ◌∙◌}
 use Rattle.reader.proofs.Itemising.{at_end, item_word, item_setting, item_comment, item_none}
-use borrow.Author.Rules.{rules}
-use Rattle.reader.proofs.items.comment_end.Reads as comment-end-reads
-use Rattle.reader.proofs.items.comment_item.Reads as comment-item-reads
-use Rattle.reader.proofs.items.is_letter.Reads as is-letter-reads
-use Rattle.reader.proofs.items.setting_at.Reads as setting-at-reads
-use Rattle.reader.proofs.items.word_item.Reads as word-item-reads
-use Rattle.reader.proofs.values.value_at.Reads as value-at-reads
 use Rattle.reader.proofs.items.item_at.Goals as goal
 
 pub returns-then-text-at : goal.returns-then-text-at

@@ -1,10 +1,5 @@
 use mathlib.Core.Path.{sym, ◌∙◌}
 use Rattle.reader.proofs.Itemising.{end_word, end_setting, end_comment, end_none}
-use borrow.Author.Rules.{rules}
-use Rattle.reader.proofs.items.comment_end.Reads as comment-end-reads
-use Rattle.reader.proofs.items.is_letter.Reads as is-letter-reads
-use Rattle.reader.proofs.items.setting_end.Reads as setting-end-reads
-use Rattle.reader.proofs.passage.pass_value.Reads as pass-value-reads
 use Rattle.reader.proofs.items.item_end.Goals as goal
 
 pub returns-then-is_letter : goal.returns-then-is_letter

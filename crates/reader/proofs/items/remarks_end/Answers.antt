@@ -1,11 +1,6 @@
 use Rattle.reader.proofs.Itemising.{remarks_more, remarks_stop, remarks_past}
 use native.Mathlib.Omega.{arith}
-use lib.ListN.{length}
-use Prim.Native.Nat.{◌-◌, ◌≤◌}
-use Rattle.reader.specs.Places.{remarks_end}
-use borrow.Author.Rules.{rules}
-use mathlib.Core.Path.{◌≡◌, refl, sym, ◌∙◌}
-use Rattle.reader.proofs.items.is_remark.Reads as is-remark-reads
+use mathlib.Core.Path.{refl, sym, ◌∙◌}
 use Rattle.reader.proofs.items.remarks_end.Goals as goal
 
 pub loop-i-init : goal.loop-i-init

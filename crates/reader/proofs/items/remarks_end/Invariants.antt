@@ -1,11 +1,7 @@
-use Rattle.reader.proofs.Itemising.{remarks_more, remarks_stop, remarks_past}
-use native.Mathlib.Omega.{arith}
 use lib.ListN.{length}
 use Prim.Native.Nat.{◌-◌, ◌≤◌}
 use Rattle.reader.specs.Places.{remarks_end}
-use borrow.Author.Rules.{rules}
-use mathlib.Core.Path.{◌≡◌, refl, sym, ◌∙◌}
-use Rattle.reader.proofs.items.is_remark.Reads as is-remark-reads
+use mathlib.Core.Path.{◌≡◌}
 use Rattle.reader.proofs.items.remarks_end.Given as goal
 
 abbrev pub invariant-loop-i : goal.invariant-loop-i

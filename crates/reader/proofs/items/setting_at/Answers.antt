@@ -1,12 +1,6 @@
 use native.Mathlib.Omega.{arith}
 use Rattle.reader.proofs.Itemising.{equals_within, setting_no_number, setting_no_equals, setting_no_amount, setting_amount_deep, setting_whole, setting_deep}
 use Rattle.reader.proofs.Levels.{fits_end, over_end}
-use borrow.Author.Rules.{rules}
-use Rattle.reader.proofs.items.amount_end.Reads as amount-end-reads
-use Rattle.reader.proofs.items.deep_item.Reads as deep-item-reads
-use Rattle.reader.proofs.items.setting_item.Reads as setting-item-reads
-use Rattle.reader.proofs.spelling.keyword.Reads as keyword-reads
-use Rattle.reader.proofs.values.value_at.Reads as value-at-reads
 use Rattle.reader.proofs.items.setting_at.Goals as goal
 
 pub keyword-requires : goal.keyword-requires

@@ -1,7 +1,4 @@
 use Rattle.reader.proofs.Itemising.{value_within, setting_past, setting_broken}
-use borrow.Author.Rules.{rules}
-use Rattle.reader.proofs.items.amount_end.Reads as amount-end-reads
-use Rattle.reader.proofs.passage.pass_value.Reads as pass-value-reads
 use Rattle.reader.proofs.items.setting_end.Goals as goal
 
 pub amount_end-requires : goal.amount_end-requires

@@ -1,6 +1,4 @@
 use mathlib.Core.Path.{sym, ◌∙◌}
-use borrow.Author.Rules.{rules}
-use Rattle.value.proofs.parameter.Reads as parameter-reads
 use Rattle.reader.proofs.items.setting_item.Goals as goal
 
 pub returns-in-Good-amount : goal.returns-in-Good-amount

@@ -1,4 +1,3 @@
-use borrow.Author.Rules.{rules}
 use Rattle.reader.proofs.items.word_item.Goals as goal
 
 pub returns-in-Good : goal.returns-in-Good

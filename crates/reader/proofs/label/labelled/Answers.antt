@@ -3,10 +3,6 @@
 use native.Mathlib.Omega.{arith}
 use Rattle.reader.proofs.Beginning.{label_within}
 use Rattle.reader.proofs.Labelling.{number_wrong, number_none, number_broken, number_low, number_some}
-use borrow.Author.Rules.{rules}
-use Rattle.reader.proofs.line.check_from.Reads as check-from-reads
-use Rattle.reader.proofs.line.label_end.Reads as label-end-reads
-use Rattle.reader.proofs.numbers.digits_from.Reads as digits-from-reads
 use Rattle.reader.proofs.label.labelled.Goals as goal
 
 pub returns-in_default : goal.returns-in_default

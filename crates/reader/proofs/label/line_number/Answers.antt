@@ -2,9 +2,6 @@
 -- Assumes nothing.
 use mathlib.Core.Path.{refl}
 use Rattle.reader.proofs.LineRead.{front_is, front_within, front_long, short, too_long, number_by_form, long_number}
-use borrow.Author.Rules.{rules}
-use Rattle.reader.proofs.label.text_number.Reads as text-number-reads
-use Rattle.text.proofs.prepare.Reads as prepare-reads
 use Rattle.reader.proofs.label.line_number.Goals as goal
 
 pub slice_bounds-text-end : goal.slice_bounds-text-end

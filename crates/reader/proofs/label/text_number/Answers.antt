@@ -4,9 +4,6 @@ use mathlib.Core.Path.{ap}
 use Rattle.reader.specs.Number.{number_at}
 use Rattle.reader.proofs.Beginning.{form_within, form_wrong}
 use Rattle.reader.proofs.Labelling.{number_line}
-use borrow.Author.Rules.{rules}
-use Rattle.reader.proofs.label.labelled.Reads as labelled-reads
-use Rattle.reader.proofs.mark.mark_end.Reads as mark-end-reads
 use Rattle.reader.proofs.label.text_number.Goals as goal
 
 pub labelled-requires : goal.labelled-requires

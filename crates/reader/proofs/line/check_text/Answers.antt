@@ -3,10 +3,6 @@ use Rattle.grammar.proofs.Place.{Placed}
 use Rattle.grammar.specs.Grammar.{Line}
 use mathlib.Core.Path.{ap, ◌∙◌}
 use Rattle.reader.proofs.Beginning.{label_within, form_within, line_checked, label_wrong, form_wrong}
-use borrow.Author.Rules.{rules}
-use Rattle.reader.proofs.line.check_from.Reads as check-from-reads
-use Rattle.reader.proofs.line.label_end.Reads as label-end-reads
-use Rattle.reader.proofs.mark.mark_end.Reads as mark-end-reads
 use Rattle.reader.proofs.line.check_text.Goals as goal
 
 pub label_end-requires : goal.label_end-requires

@@ -1,4 +1,3 @@
-
 use Rattle.reader.proofs.line.first_refusal.Goals as goal
 
 pub returns-then-stopped : goal.returns-then-stopped

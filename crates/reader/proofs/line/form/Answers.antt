@@ -1,8 +1,5 @@
 use Rattle.reader.proofs.LineRead.{front_is, front_within, front_long, short, too_long, form_by_form, long_form}
 use mathlib.Core.Path.{refl}
-use borrow.Author.Rules.{rules}
-use Rattle.reader.proofs.line.check_text.Reads as check-text-reads
-use Rattle.text.proofs.prepare.Reads as prepare-reads
 use Rattle.reader.proofs.line.form.Goals as goal
 
 pub slice_bounds-text-end : goal.slice_bounds-text-end

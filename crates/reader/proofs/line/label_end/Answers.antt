@@ -1,6 +1,4 @@
 use Rattle.reader.proofs.Beginning.{label_past, label_none, label_empty, label_many, label_some}
-use borrow.Author.Rules.{rules}
-use Rattle.reader.proofs.numbers.digits_from.Reads as digits-from-reads
 use Rattle.reader.proofs.line.label_end.Goals as goal
 
 pub returns-then-text-at : goal.returns-then-text-at

@@ -10,10 +10,6 @@ use Rattle.reader.specs.declared.line.Reading.{Reading}
 use Rattle.reader.specs.declared.line.Reading.TheVariants.{Read as Whole, Stopped, Deep, Wrong, TooLong}
 use Rattle.reader.specs.contracts.line.Reading.{the_type}
 use Rattle.reader.proofs.LineRead.{front_is, front_within, front_long, front_short, short, too_long, reads_by_form, long_by_form}
-use borrow.Author.Rules.{rules}
-use Rattle.reader.proofs.line.clear.Reads as clear_reads
-use Rattle.reader.proofs.line.read_text.Reads as read-text-reads
-use Rattle.text.proofs.prepare.Reads as prepare-reads
 use Rattle.reader.proofs.line.read.Goals as goal
 
 -- the spaces of a line that is neither of wrong form nor of too deep a nesting stay as they are

@@ -5,10 +5,6 @@ use Rattle.grammar.specs.Grammar.{Line}
 use native.Mathlib.Omega.{arith}
 use mathlib.Core.Path.{ap, ◌∙◌}
 use Rattle.reader.proofs.Beginning.{label_within, form_within, past_ends, work_within, line_left, label_wrong, no_mark}
-use borrow.Author.Rules.{rules}
-use Rattle.reader.proofs.line.gather.Reads as gather-reads
-use Rattle.reader.proofs.line.label_end.Reads as label-end-reads
-use Rattle.reader.proofs.mark.mark_at.Reads as mark-at-reads
 use Rattle.reader.proofs.line.read_text.Goals as goal
 
 pub label_end-requires : goal.label_end-requires

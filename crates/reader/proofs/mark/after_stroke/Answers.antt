@@ -1,5 +1,4 @@
 use Rattle.reader.proofs.Beginning.{after_none, after_bracket, after_other}
-use borrow.Author.Rules.{rules}
 use Rattle.reader.proofs.mark.after_stroke.Goals as goal
 
 pub returns-then-text-le1 : goal.returns-then-text-le1

@@ -1,7 +1,3 @@
-use borrow.Author.Rules.{rules}
-use Rattle.reader.proofs.mark.goes_on.Reads as goes-on-reads
-use Rattle.reader.proofs.mark.runs.Reads as runs-reads
-use Rattle.reader.proofs.mark.stops_with.Reads as stops-with-reads
 use Rattle.reader.proofs.mark.condition.Goals as goal
 
 pub returns-then-runs : goal.returns-then-runs

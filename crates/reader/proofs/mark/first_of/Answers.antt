@@ -1,6 +1,4 @@
 use Rattle.reader.proofs.Beginning.{first_none, first_slash, first_backslash, first_other}
-use borrow.Author.Rules.{rules}
-use Rattle.reader.proofs.mark.after_stroke.Reads as after-stroke-reads
 use Rattle.reader.proofs.mark.first_of.Goals as goal
 
 pub returns-then-text-eq0 : goal.returns-then-text-eq0

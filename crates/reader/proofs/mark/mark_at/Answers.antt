@@ -1,10 +1,4 @@
 use Rattle.reader.proofs.Beginning.{mark_long, mark_work_some, mark_none, mark_plain, mark_condition, mark_deep, mark_wrong}
-use borrow.Author.Rules.{rules}
-use Rattle.reader.proofs.mark.condition.Reads as condition-reads
-use Rattle.reader.proofs.mark.first_of.Reads as first-of-reads
-use Rattle.reader.proofs.mark.goes_on.Reads as goes-on-reads
-use Rattle.reader.proofs.mark.nests_deep.Reads as nests-deep-reads
-use Rattle.reader.proofs.values.value_at.Reads as value-at-reads
 use Rattle.reader.proofs.mark.mark_at.Goals as goal
 
 pub value_at-requires : goal.value_at-requires

@@ -1,8 +1,5 @@
 use mathlib.Core.List.{[]}
 use Rattle.reader.proofs.Beginning.{mark_long, form_none, form_plain, form_condition}
-use borrow.Author.Rules.{rules}
-use Rattle.reader.proofs.mark.first_of.Reads as first-of-reads
-use Rattle.reader.proofs.passage.pass_value.Reads as pass-value-reads
 use Rattle.reader.proofs.mark.mark_end.Goals as goal
 
 pub pass_value-requires : goal.pass_value-requires

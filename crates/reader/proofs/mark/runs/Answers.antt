@@ -4,8 +4,6 @@ use mathlib.Core.Path.{ap, ◌∙◌}
 use lib.IntN.{nat_abs}
 use Rattle.laws.proofs.Ints.{back}
 use Rattle.reader.proofs.Beginning.{runs_zero, runs_other}
-use borrow.Author.Rules.{rules}
-use Rattle.value.proofs.size_of.Reads as size-of-reads
 use Rattle.reader.proofs.mark.runs.Goals as goal
 
 pub returns-then-size_of-le1 : goal.returns-then-size_of-le1

@@ -1,9 +1,5 @@
-use borrow.Author.Rules.{rules}
-use Prim.Native.Nat.{◌-◌}
-use lib.ListN.{take}
 use native.Mathlib.Omega.{arith}
-use Rattle.reader.proofs.Numerals.{Passed, part_none, part_past, part_low, part_high, part_more}
-use Rattle.reader.proofs.numbers.with_digit.Reads as with-digit-reads
+use Rattle.reader.proofs.Numerals.{part_none, part_past, part_low, part_high, part_more}
 use Rattle.reader.proofs.numbers.digits_before.Goals as goal
 
 pub loop-i-init : goal.loop-i-init

@@ -1,6 +1,4 @@
-use borrow.Author.Rules.{rules}
 use Rattle.reader.proofs.Numerals.{to_the_end}
-use Rattle.reader.proofs.numbers.digits_before.Reads as digits-before-reads
 use Rattle.reader.proofs.numbers.digits_from.Goals as goal
 
 pub returns : goal.returns

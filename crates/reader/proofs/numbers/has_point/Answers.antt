@@ -2,7 +2,6 @@ use Rattle.reader.proofs.Numerals.{eqb_swap}
 use mathlib.Core.Path.{sym, ◌∙◌}
 use Rattle.reader.proofs.Spellings.{point_by}
 use lib.ListN.{drop_of_length-le, get_or}
-use borrow.Author.Rules.{rules}
 use Rattle.reader.proofs.numbers.has_point.Goals as goal
 
 pub returns-then-text-at : goal.returns-then-text-at

@@ -1,6 +1,3 @@
-use borrow.Author.Tests.{le-leb, lt-leb}
-use mathlib.Core.Logic.{⊎_elim}
-use Rattle.reader.proofs.Numerals.{not_numeric}
 use Rattle.reader.proofs.numbers.is_numeric.Goals as goal
 
 pub returns-in-43 : goal.returns-in-43

@@ -2,11 +2,6 @@ use Rattle.reader.proofs.Numerals.{run_on, run_low, point_on, none_at_all, whole
 use native.Mathlib.Omega.{arith}
 use mathlib.Core.Path.{sym, ◌∙◌}
 use borrow.Author.Rules.{rules}
-use Rattle.reader.proofs.numbers.digits_before.Reads as digits-before-reads
-use Rattle.reader.proofs.numbers.digits_from.Reads as digits-from-reads
-use Rattle.reader.proofs.numbers.has_point.Reads as has-point-reads
-use Rattle.reader.proofs.numbers.sign_at.Reads as sign-at-reads
-use Rattle.value.proofs.number.Reads as number-reads
 use Rattle.reader.proofs.numbers.number_at.Goals as goal
 
 pub overflow_add-decimals : goal.overflow_add-decimals

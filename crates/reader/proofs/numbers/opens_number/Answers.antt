@@ -1,8 +1,6 @@
 use mathlib.Core.Path.{sym, ◌∙◌}
 use Rattle.reader.proofs.Spellings.{number_by}
 use lib.ListN.{drop_of_length-le}
-use borrow.Author.Rules.{rules}
-use Rattle.reader.proofs.numbers.is_numeric.Reads as is-numeric-reads
 use Rattle.reader.proofs.numbers.opens_number.Goals as goal
 
 pub returns-then-text-at : goal.returns-then-text-at

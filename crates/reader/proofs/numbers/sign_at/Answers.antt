@@ -1,5 +1,4 @@
 use Rattle.reader.proofs.Numerals.{sign_past, sign_plus, sign_minus, sign_none}
-use borrow.Author.Rules.{rules}
 use Rattle.reader.proofs.numbers.sign_at.Goals as goal
 
 pub returns-then-text-at : goal.returns-then-text-at

@@ -1,6 +1,4 @@
 use Rattle.reader.proofs.Skimming.{step_past, step_close, step_operator, step_no_following}
-use borrow.Author.Rules.{rules}
-use Rattle.reader.proofs.spelling.following_at.Reads as following-at-reads
 use Rattle.reader.proofs.passage.done_step.Goals as goal
 
 pub returns-then-brackets-eq0 : goal.returns-then-brackets-eq0

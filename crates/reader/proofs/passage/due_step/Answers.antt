@@ -1,9 +1,5 @@
 use mathlib.Core.Path.{sym, ◌∙◌}
 use Rattle.reader.proofs.Skimming.{step_number, step_no_number, step_parameter, step_bracket, step_function, step_no_opening}
-use borrow.Author.Rules.{rules}
-use Rattle.reader.proofs.numbers.number_at.Reads as number-at-reads
-use Rattle.reader.proofs.numbers.opens_number.Reads as opens-number-reads
-use Rattle.reader.proofs.spelling.opening_at.Reads as opening-at-reads
 use Rattle.reader.proofs.passage.due_step.Goals as goal
 
 pub returns-in-To : goal.returns-in-To

@@ -1,10 +1,5 @@
 use Rattle.reader.specs.Places.{spelt_to}
-use borrow.Author.Rules.{rules}
-use mathlib.Core.Path.{◌≡◌, refl, ◌∙◌, ap}
-use Prim.Native.Nat.{◌≤◌}
-use lib.ListN.{length}
-use Rattle.reader.specs.Passage.{onward, left}
-use Rattle.reader.proofs.passage.step_from.Reads as step-from-reads
+use mathlib.Core.Path.{refl, ◌∙◌, ap}
 use Rattle.reader.proofs.passage.pass_from.Goals as goal
 
 pub loop-next-init : goal.loop-next-init

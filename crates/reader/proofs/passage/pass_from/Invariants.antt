@@ -1,10 +1,7 @@
-use Rattle.reader.specs.Places.{spelt_to}
-use borrow.Author.Rules.{rules}
-use mathlib.Core.Path.{◌≡◌, refl, ◌∙◌, ap}
+use mathlib.Core.Path.{◌≡◌}
 use Prim.Native.Nat.{◌≤◌}
 use lib.ListN.{length}
 use Rattle.reader.specs.Passage.{onward, left}
-use Rattle.reader.proofs.passage.step_from.Reads as step-from-reads
 use Rattle.reader.proofs.passage.pass_from.Given as goal
 
 abbrev pub invariant-loop-next : goal.invariant-loop-next

@@ -1,7 +1,5 @@
 use mathlib.Core.Path.{◌∙◌}
 use Rattle.reader.proofs.Skimming.{from_rest}
-use borrow.Author.Rules.{rules}
-use Rattle.reader.proofs.passage.pass_from.Reads as pass-from-reads
 use Rattle.reader.proofs.passage.pass_rest.Goals as goal
 
 pub returns : goal.returns

@@ -1,7 +1,4 @@
 use Rattle.reader.proofs.Skimming.{step_by}
-use borrow.Author.Rules.{rules}
-use Rattle.reader.proofs.passage.done_step.Reads as done-step-reads
-use Rattle.reader.proofs.passage.due_step.Reads as due-step-reads
 use Rattle.reader.proofs.passage.step_from.Goals as goal
 
 pub returns-then-way : goal.returns-then-way

@@ -2,9 +2,6 @@ use Rattle.grammar.specs.declared.Func.TheVariants.{Fix, Fup}
 use mathlib.Core.List.{[], ◌∷◌}
 use mathlib.Core.Path.{refl}
 use Rattle.reader.proofs.Spellings.{f_past, f_word, f_none}
-use borrow.Author.Rules.{rules}
-use Rattle.reader.proofs.spelling.function_after.Reads as function-after-reads
-use Rattle.reader.proofs.spelling.keyword.Reads as keyword-reads
 use Rattle.reader.proofs.spelling.fix_or_fup.Goals as goal
 
 pub returns-then-text-at : goal.returns-then-text-at

@@ -4,9 +4,6 @@ use Rattle.grammar.specs.declared.Op.TheVariants.{Add, Sub, Mul, Div, Mod, And, 
 use mathlib.Core.List.{[], ◌∷◌}
 use mathlib.Core.Path.{refl}
 use Rattle.reader.proofs.Spellings.{following_past, following_mark, following_word, following_none}
-use borrow.Author.Rules.{rules}
-use Rattle.reader.proofs.spelling.keyword.Reads as keyword-reads
-use Rattle.reader.proofs.spelling.operator_after.Reads as operator-after-reads
 use Rattle.reader.proofs.spelling.following_at.Goals as goal
 
 pub returns-then-text-at : goal.returns-then-text-at

@@ -1,8 +1,6 @@
 use borrow.Author.Rules.{rules}
-use Prim.Native.Nat.{◌-◌}
-use lib.ListN.{length}
 use native.Mathlib.Omega.{arith}
-use Rattle.reader.proofs.Spellings.{Along, along_none, along_all, along_end, along_miss, along_more}
+use Rattle.reader.proofs.Spellings.{along_none, along_all, along_end, along_miss, along_more}
 use Rattle.reader.proofs.spelling.keyword.Goals as goal
 
 pub loop-i-init : goal.loop-i-init

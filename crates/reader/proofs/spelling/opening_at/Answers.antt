@@ -4,10 +4,6 @@ use Rattle.grammar.specs.declared.Func.TheVariants.{Abs, Round}
 use mathlib.Core.List.{[], ◌∷◌}
 use mathlib.Core.Path.{refl}
 use Rattle.reader.proofs.Spellings.{opening_past, opening_mark, opening_word, opening_by_f, opening_none}
-use borrow.Author.Rules.{rules}
-use Rattle.reader.proofs.spelling.function_after.Reads as function-after-reads
-use Rattle.reader.proofs.spelling.fix_or_fup.Reads as fix-or-fup-reads
-use Rattle.reader.proofs.spelling.keyword.Reads as keyword-reads
 use Rattle.reader.proofs.spelling.opening_at.Goals as goal
 
 pub returns-then-text-at : goal.returns-then-text-at

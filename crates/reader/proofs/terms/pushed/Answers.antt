@@ -1,8 +1,4 @@
 use mathlib.Core.Path.{sym, ◌∙◌}
-use borrow.Author.Rules.{rules}
-use Rattle.reader.proofs.terms.is_high.Reads as is-high-reads
-use Rattle.reader.proofs.terms.settled.Reads as settled-reads
-use Rattle.arithmetic.proofs.work.Reads as work-reads
 use Rattle.reader.proofs.terms.pushed.Goals as goal
 
 pub returns-then-is_high : goal.returns-then-is_high

@@ -1,6 +1,4 @@
 use mathlib.Core.Path.{◌∙◌}
-use borrow.Author.Rules.{rules}
-use Rattle.arithmetic.proofs.work.Reads as work-reads
 use Rattle.reader.proofs.terms.settled.Goals as goal
 
 pub returns-in-Waits : goal.returns-in-Waits

@@ -1,6 +1,4 @@
 use native.Mathlib.Omega.{arith}
-use borrow.Author.Rules.{rules}
-use Rattle.arithmetic.proofs.lookup.Reads as lookup-reads
 use Rattle.reader.proofs.values.entry_of.Goals as goal
 
 pub overflow_add-result : goal.overflow_add-result

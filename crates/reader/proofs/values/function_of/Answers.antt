@@ -1,6 +1,4 @@
 use native.Mathlib.Omega.{arith}
-use borrow.Author.Rules.{rules}
-use Rattle.arithmetic.proofs.apply.Reads as apply-reads
 use Rattle.reader.proofs.values.function_of.Goals as goal
 
 pub overflow_add-result : goal.overflow_add-result

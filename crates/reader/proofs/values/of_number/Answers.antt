@@ -1,4 +1,3 @@
-use borrow.Author.Rules.{rules}
 use Rattle.reader.proofs.values.of_number.Goals as goal
 
 pub returns-in-To : goal.returns-in-To

@@ -1,8 +1,6 @@
 -- `summary::filing::block_of` meets its contract. Key by key.
 -- Assumes nothing.
 use mathlib.Core.List.{[], ◌∷◌}
-use lib.Dec.{lit≤, lit<}
-use borrow.Author.Rules.{rules}
 use Rattle.summary.proofs.filing.block_of.Goals as goal
 
 pub returns : goal.returns

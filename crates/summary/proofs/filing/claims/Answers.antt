@@ -4,7 +4,6 @@ use mathlib.Core.Path.{refl, sym}
 use mathlib.Core.Bool.{or-true}
 use mathlib.Core.Logic.{⊎_elim, inl, inr}
 use lib.Dec.{eqb}
-use borrow.Author.Rules.{rules}
 use borrow.Author.Tests.{eq-eqb, ne_eqb}
 use Rattle.summary.proofs.filing.claims.Goals as goal
 

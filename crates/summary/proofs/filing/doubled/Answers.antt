@@ -2,7 +2,6 @@
 -- Assumes nothing.
 use mathlib.Core.Path.{refl}
 use mathlib.Core.List.{[], ◌∷◌}
-use borrow.Author.Rules.{rules}
 use Rattle.summary.proofs.Keys.{one_of, none_of}
 use Rattle.summary.proofs.filing.doubled.Goals as goal
 

@@ -1,7 +1,6 @@
 -- `summary::filing::unserved` meets its contract. After G, and then after M.
 -- Assumes nothing.
 use mathlib.Core.Path.{refl, sym, ◌∙◌}
-use borrow.Author.Rules.{rules}
 use Rattle.summary.proofs.filing.unserved.Goals as goal
 
 pub returns-then-is_seen : goal.returns-then-is_seen

@@ -4,7 +4,6 @@ use mathlib.Core.Path.{refl}
 use native.Mathlib.Omega.{arith}
 use mir.ValLaws.{to_z_pos}
 use mir.Syntax.{w64}
-use borrow.Author.Rules.{rules}
 use Rattle.summary.proofs.words.code_entry.Goals as goal
 
 pub returns-then-code : goal.returns-then-code

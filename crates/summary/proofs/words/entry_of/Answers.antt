@@ -7,7 +7,6 @@ use lib.IntN.{ℤ}
 use mir.ValLaws.{to_z-of_z}
 use mir.Syntax.{w64}
 use borrow.Author.Tests.{ne_eqb}
-use borrow.Author.Rules.{rules}
 use Rattle.rules.specs.declared.Code.{Code}
 use Rattle.rules.specs.Codes.{group_of, g_group, m_group, g_code, m_code, not_served}
 use Rattle.summary.specs.declared.words.Entry.{Entry}

@@ -1,7 +1,6 @@
 -- `summary::words::number` meets its contract: the shorter of the slices bounds the words.
 -- Assumes nothing.
 use native.Mathlib.Omega.{arith}
-use borrow.Author.Rules.{rules}
 use Rattle.summary.proofs.Held.{said_count}
 use Rattle.summary.proofs.words.number.Goals as goal
 

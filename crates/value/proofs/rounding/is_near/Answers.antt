@@ -3,7 +3,6 @@
 use native.Mathlib.Omega.{arith}
 use native.Mathlib.Nat.{mod-lt}
 use Rattle.value.proofs.Sizes.{near_below, near_above}
-use borrow.Author.Rules.{rules}
 use Rattle.value.proofs.rounding.is_near.Goals as goal
 
 pub returns-then-over-le1 : goal.returns-then-over-le1

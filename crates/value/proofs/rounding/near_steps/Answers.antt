@@ -5,8 +5,7 @@ use Rattle.laws.proofs.Ints.{back}
 use Rattle.value.proofs.Sizes.{near_is, near_none, nearest_fits}
 use native.Mathlib.Omega.{arith}
 use borrow.Author.Rules.{rules}
-use mathlib.Core.Path.{◌≡◌, ap, ◌∙◌}
-use lib.IntN.{nat_abs}
+use mathlib.Core.Path.{ap, ◌∙◌}
 use Rattle.value.proofs.rounding.near_steps.Goals as goal
 
 pub signed-steps-requires : goal.signed-steps-requires

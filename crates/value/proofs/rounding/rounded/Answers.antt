@@ -3,7 +3,6 @@
 use Rattle.value.proofs.Sizes.{none_by_zero, nearest_down, nearest_up, one_more}
 use native.Mathlib.Omega.{arith}
 use native.Mathlib.Nat.{mod-lt, pos_of_ne-zero}
-use borrow.Author.Rules.{rules}
 use Rattle.value.proofs.rounding.rounded.Goals as goal
 
 pub returns-then-d-eq0 : goal.returns-then-d-eq0

@@ -4,7 +4,6 @@ use mathlib.Core.Path.{sym, ap, ◌∙◌}
 use Rattle.value.proofs.Ranges.{signed_in, signed_out}
 use Rattle.rules.specs.declared.Worked.TheVariants.{Good}
 use lib.IntN.{ℤ}
-use borrow.Author.Rules.{rules}
 use Rattle.value.proofs.signs.ranged_signed.Goals as goal
 
 pub returns-then-size-le999999999 : goal.returns-then-size-le999999999

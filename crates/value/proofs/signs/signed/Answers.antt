@@ -4,7 +4,6 @@ use lib.IntN.{pos, neg_ℤ}
 use mir.Facts.{to_z_pos}
 use mir.Syntax.{w64}
 use Rattle.laws.proofs.Ints.{back, neg_fits, zero_minus}
-use borrow.Author.Rules.{rules}
 use Rattle.value.proofs.signs.signed.Goals as goal
 
 pub overflow_sub-result : goal.overflow_sub-result

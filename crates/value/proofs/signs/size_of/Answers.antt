@@ -1,7 +1,6 @@
 -- `value::signs::size_of` meets its contract: below zero one is taken off before the sign is turned, and added after.
 -- Assumes nothing.
 use Rattle.value.proofs.Bits.{above_cast, below_fits, below_cast, below_add, below_size}
-use borrow.Author.Rules.{rules}
 use Rattle.value.proofs.signs.size_of.Goals as goal
 
 pub overflow_sub-result : goal.overflow_sub-result
