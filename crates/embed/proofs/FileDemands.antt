@@ -1,6 +1,6 @@
 -- What the promise of reading a parameter file comes to on plain numbers: a refused file leaves every number as it was, and two results that it allows are equal.
 -- Assumes nothing.
-use mathlib.Core.Path.{◌≡◌, refl, ap, sym, subst, ◌∙◌}
+use mathlib.Core.Path.{◌≡◌, refl, ap, sym, ◌∙◌}
 use mathlib.Core.Bool.{Bool, true, false}
 use mathlib.Core.List.{List}
 use Prim.Native.Nat.{ℕ}

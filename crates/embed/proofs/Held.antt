@@ -8,7 +8,7 @@ use native.Mathlib.Numerals.{add-one}
 use native.Mathlib.Omega.{arith}
 use lib.Dec.{T, eqb, eqb→eq, leb-zero}
 use lib.IntN.{ℤ, pos, negsuc, nat_abs}
-use lib.ListN.{length, get_or, take, drop}
+use lib.ListN.{length, drop}
 use lib.Seq.{drop-cons, get_or-drop, get_or-take}
 use lib.Signed.{mag, lt_z, le_z, non_neg}
 use mir.Syntax.{Width, w64}

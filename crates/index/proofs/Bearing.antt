@@ -1,23 +1,21 @@
 -- The number that the reader tells of a line is the number that the line bears.
 -- Assumes nothing.
 use mathlib.Core.Path.{◌≡◌, refl, sym, ap, ◌∙◌}
-use mathlib.Core.Bool.{Bool, true, false, cond, ◌&&◌}
 use mathlib.Core.List.{List}
 use mathlib.Core.Logic.{◌⊎◌, inl, inr}
 use Prim.Native.Nat.{ℕ, ◌≤◌, ◌<◌}
 use native.Mathlib.Omega.{arith}
 use native.Mathlib.Decide.{dec_lt}
 use borrow.Author.Tests.{lt-ltb, le-ltb, le-leb, lt-leb}
-use lib.Dec.{ltb, leb}
 use lib.ListN.{length}
-use Rattle.grammar.specs.Grammar.{Line, line, Label, unlabelled, label}
+use Rattle.grammar.specs.Grammar.{Line, line, unlabelled, label}
 use Rattle.grammar.specs.Derivation.{Derives, Form, derived, ByForm}
 use Rattle.grammar.proofs.Derivations.{decided}
 use Rattle.grammar.proofs.Stuck.{stuck_at, breaks}
-use Rattle.reader.specs.Number.{label_number, tree_number, number_on}
+use Rattle.reader.specs.Number.{tree_number, number_on}
 use Rattle.reader.specs.declared.label.LineNumber.{LineNumber}
-use Rattle.reader.specs.declared.label.LineNumber.TheVariants.{N, Without}
-use Rattle.texts.specs.Form.{Tells, is_derived, right}
+use Rattle.reader.specs.declared.label.LineNumber.TheVariants.{Without}
+use Rattle.texts.specs.Form.{Tells, right}
 use Rattle.index.specs.Index.{labelled, borne}
 use Rattle.index.specs.Held.{number_of}
 

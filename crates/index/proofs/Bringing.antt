@@ -4,15 +4,15 @@ use mathlib.Core.Path.{◌≡◌, refl, sym, ap, ap₂, ◌∙◌}
 use mathlib.Core.Bool.{Bool, true, false, cond}
 use mathlib.Core.List.{List, [], ◌∷◌}
 use mathlib.Core.Option.{Option, none, some}
-use Prim.Native.Nat.{ℕ, zero, suc, ◌+◌, ◌-◌, ◌≤◌, ◌<◌}
+use Prim.Native.Nat.{ℕ, zero, suc, ◌+◌, ◌-◌, ◌≤◌}
 use native.Mathlib.Omega.{arith}
 use borrow.Author.Tests.{eqb-true, eqb-false, eq-eqb, ne_eqb, le-leb, lt-leb}
-use lib.Dec.{eqb, leb}
+use lib.Dec.{eqb}
 use lib.ListN.{length, drop}
 use Rattle.grammar.specs.Grammar.{Line}
 use Rattle.grammar.specs.Derivation.{Form}
-use Rattle.texts.specs.Ends.{Piece, piece, pieces, joined}
-use Rattle.index.specs.Index.{borne, bears, Place, place, size, first_from, place_of, Entry, RisingFrom, find, IndexOf, put, built, indexed, line_at, start_at, with_line, line_of, text_with, unfit, replace, replace_afresh}
+use Rattle.texts.specs.Ends.{Piece, piece, pieces}
+use Rattle.index.specs.Index.{borne, bears, Place, place, size, first_from, place_of, Entry, RisingFrom, find, IndexOf, put, built, line_at, start_at, with_line, line_of, text_with, unfit, replace, replace_afresh}
 use Rattle.index.specs.Update.{seek, is_at, up_to, moved, entered, brought, bring}
 use Rattle.index.proofs.Entries.{put_rises, put_same, put_other}
 use Rattle.index.proofs.Built.{built_is, only_index}

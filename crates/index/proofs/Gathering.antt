@@ -4,7 +4,7 @@ use mathlib.Core.Path.{◌≡◌, refl, sym, ap, ◌∙◌}
 use mathlib.Core.Bool.{Bool, true, false, cond}
 use mathlib.Core.List.{List, [], ◌∷◌}
 use mathlib.Core.Option.{Option, none, some}
-use Prim.Native.Nat.{ℕ, suc, ◌+◌, ◌≤◌, ◌<◌}
+use Prim.Native.Nat.{ℕ, suc, ◌+◌, ◌≤◌}
 use native.Mathlib.Omega.{arith}
 use native.Mathlib.Numerals.{add-one}
 use borrow.Author.Tests.{eqb-true, eqb-false}
@@ -15,7 +15,7 @@ use Rattle.grammar.specs.Derivation.{Form}
 use Rattle.texts.specs.Ends.{Piece, piece, pieces}
 use Rattle.texts.proofs.Cutting.{last_is}
 use Rattle.texts.proofs.Rightness.{model}
-use Rattle.index.specs.Index.{borne, bears, Place, place, size, first_from, place_of, Entry, RisingFrom, find, IndexOf, front, put, built}
+use Rattle.index.specs.Index.{borne, bears, Place, place, size, first_from, place_of, Entry, RisingFrom, find, front, put, built}
 use Rattle.index.specs.Update.{seek, here, added, gathered_from}
 use Rattle.index.specs.Lines.{part, CutAt}
 use Rattle.index.specs.declared.lines.Cut.{Cut}

@@ -3,19 +3,18 @@
 use mathlib.Core.Path.{◌≡◌, refl, sym, ap, ◌∙◌}
 use mathlib.Core.Bool.{Bool, true, false, cond}
 use mathlib.Core.List.{List, [], ◌∷◌}
-use mathlib.Core.Option.{Option, none, some}
+use mathlib.Core.Option.{none, some}
 use Prim.Native.Nat.{ℕ, zero, suc, ◌+◌, ◌-◌, ◌*◌, ◌/◌, ◌≤◌, ◌<◌}
 use native.Mathlib.Omega.{arith}
-use borrow.Author.Tests.{ltb-true, ltb-false, lt-ltb, le-ltb, eqb-true, eqb-false, ne_eqb}
+use borrow.Author.Tests.{ltb-true, ltb-false, lt-ltb, le-ltb, eqb-true}
 use lib.Dec.{eqb, ltb}
 use lib.ListN.{length, get_or}
-use Rattle.index.specs.Index.{Place, place, Entry, RisingFrom, find}
+use Rattle.index.specs.Index.{place, Entry, RisingFrom, find}
 use Rattle.index.specs.Held.{kept, before, told, present, halved, searched, found_at, sought}
 use Rattle.index.specs.Update.{seek}
-use Rattle.index.specs.declared.Found.{Found}
 use Rattle.index.specs.declared.Found.TheVariants.{At, Nowhere}
 use Rattle.index.proofs.Entries.{find_below}
-use Rattle.index.proofs.Holding.{nth, entry_at, before_most, kept_long, kept_at, there, not_there, seek_at, seek_not}
+use Rattle.index.proofs.Holding.{nth, before_most, kept_long, kept_at, there, not_there, seek_at, seek_not}
 
 -- ---- the steps
 

@@ -16,7 +16,7 @@ use Rattle.grammar.specs.Grammar.{Line}
 use Rattle.grammar.specs.Derivation.{Form}
 use Rattle.texts.specs.Form.{Tells}
 use Rattle.texts.proofs.Rightness.{model, model_tells, same_told}
-use Rattle.index.specs.Index.{Entry, IndexOf, Indexed, indexed, built, build, line_of, text_with, unfit, replace_afresh}
+use Rattle.index.specs.Index.{Entry, IndexOf, Indexed, indexed, built, line_of, text_with, unfit, replace_afresh}
 use Rattle.index.specs.Held.{held, kept, flat, after, afterwards, over}
 use Rattle.index.specs.Update.{brought, bring}
 use Rattle.index.specs.Lines.{part, LineAt}

@@ -1,6 +1,6 @@
 -- From call to call the index stays the text's: what `build` and `replace` leave is the index of the text that they leave.
 -- Assumes nothing.
-use mathlib.Core.Path.{◌≡◌, refl, sym, ap, ap₂, ◌∙◌}
+use mathlib.Core.Path.{◌≡◌, ap, ap₂, ◌∙◌}
 use mathlib.Core.Bool.{Bool, true, false, cond}
 use mathlib.Core.List.{List, []}
 use mathlib.Core.Option.{Option, none, some}
@@ -11,10 +11,9 @@ use lib.ListN.{length}
 use Rattle.grammar.specs.Grammar.{Line}
 use Rattle.grammar.specs.Derivation.{Form}
 use Rattle.texts.specs.Form.{Tells}
-use Rattle.index.specs.Index.{Entry, IndexOf, Indexed, indexed, built, text_most, index_most, build, line_of, text_with, unfit, limited, swapped, replace_afresh}
+use Rattle.index.specs.Index.{Entry, IndexOf, indexed, built, text_most, index_most, build, line_of, text_with, unfit, swapped, replace_afresh}
 use Rattle.index.specs.Held.{kept, After, after, afterwards, over}
 use Rattle.index.specs.Space.{Builds, Replaces}
-use Rattle.index.specs.declared.Answer.{Answer}
 use Rattle.index.specs.declared.Answer.TheVariants.{Entries, Refused}
 use Rattle.index.proofs.Built.{built_is}
 use Rattle.index.proofs.Handing.{over_held, replaced_afresh}

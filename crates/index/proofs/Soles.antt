@@ -1,6 +1,6 @@
 -- Each public function's contract allows one result.
 -- Assumes nothing.
-use mathlib.Core.Path.{◌≡◌, refl, sym, ◌∙◌}
+use mathlib.Core.Path.{refl}
 use Rattle.laws.proofs.Sole.{Sole, alike}
 use Rattle.texts.proofs.Rightness.{model, model_tells}
 use Rattle.index.specs.contracts.find as find

@@ -1,6 +1,6 @@
 -- An index as it is held in memory, three numbers to an entry.
 -- Assumes nothing.
-use Rattle.std.specs.Prelude.{Bool, true, false, cond, List, [], ◌∷◌, ◌++◌, ℕ, zero, suc, ◌+◌, ◌-◌, ◌*◌, ◌/◌, eqb, ltb, length, take, drop, get_or}
+use Rattle.std.specs.Prelude.{Bool, false, cond, List, [], ◌∷◌, ◌++◌, ℕ, zero, suc, ◌+◌, ◌-◌, ◌*◌, ◌/◌, eqb, ltb, length, take, drop, get_or}
 use Rattle.std.proofs.Math.Option.{Option, none, some}
 use Rattle.reader.specs.declared.label.LineNumber.{LineNumber}
 use Rattle.reader.specs.declared.label.LineNumber.TheVariants.{N, Without}

@@ -1,6 +1,6 @@
 -- Each public function's contract allows one result.
 -- Assumes nothing.
-use mathlib.Core.Path.{◌≡◌, refl, sym, ap, ◌∙◌}
+use mathlib.Core.Path.{refl, sym, ◌∙◌}
 use Rattle.laws.proofs.Sole.{Sole, alike}
 use Rattle.texts.proofs.Rightness.{model, model_tells}
 use Rattle.lookup.specs.Plain.{answered}

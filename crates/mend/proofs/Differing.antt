@@ -1,17 +1,17 @@
 -- The first byte in which two lines differ, byte by byte; and that a repair changed a line where there is one.
 -- Assumes nothing.
-use mathlib.Core.Path.{◌≡◌, refl, sym, ap, ◌∙◌}
+use mathlib.Core.Path.{◌≡◌, refl, sym}
 use mathlib.Core.Bool.{Bool, true, false, cond, ◌&&◌}
 use mathlib.Core.List.{List, [], ◌∷◌}
 use Prim.Native.Nat.{ℕ, suc, ◌+◌, ◌≤◌, ◌<◌}
 use native.Mathlib.Numerals.{add-one}
 use native.Mathlib.Omega.{arith}
-use borrow.Author.Tests.{eq-eqb, ne_eqb, eqb-true}
+use borrow.Author.Tests.{eq-eqb, ne_eqb}
 use lib.Dec.{eqb}
 use lib.ListN.{length, get_or, drop, drop_of_length-le}
 use lib.Seq.{drop-cons}
 use Rattle.mend.specs.Repairs.{lone_percent, emptied, remarked, unremarked, repaired}
-use Rattle.mend.specs.Mend.{same, differs, applies, which}
+use Rattle.mend.specs.Mend.{same, differs, which}
 use Rattle.mend.specs.Line.{added_up}
 
 module _ (a b : List ℕ) (i k : ℕ) where

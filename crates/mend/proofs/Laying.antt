@@ -1,8 +1,8 @@
 -- A line's mended bytes laid into the text's space: by what the call for one line answers, they are what the definition says.
 -- Assumes nothing.
-use mathlib.Core.Path.{◌≡◌, refl, sym, ap, ◌∙◌}
+use mathlib.Core.Path.{◌≡◌, refl, ap, ◌∙◌}
 use mathlib.Core.Bool.{true, false}
-use mathlib.Core.List.{List, [], ◌∷◌, ◌++◌, append-nil, append_assoc}
+use mathlib.Core.List.{List, ◌++◌, append-nil}
 use Prim.Native.Nat.{ℕ, ◌+◌, ◌-◌, ◌≤◌}
 use native.Mathlib.Omega.{arith}
 use borrow.Author.Tests.{le-leb}
@@ -14,7 +14,7 @@ use Rattle.texts.specs.Form.{Tells, right}
 use Rattle.texts.proofs.Rightness.{right_only, model, model_tells}
 use Rattle.mend.specs.Repairs.{repaired}
 use Rattle.mend.specs.Mend.{Outcome, mend}
-use Rattle.mend.specs.Line.{Left, leaves, put, left_by, MendsLine}
+use Rattle.mend.specs.Line.{Left, put, left_by, MendsLine}
 use Rattle.mend.specs.Text.{Long, laid_at, Room, noted_by, LineLaid, lays_line, LaysLine}
 use Rattle.mend.specs.declared.line.Mended.{Mended}
 use Rattle.mend.specs.declared.line.Mended.TheVariants.{Already, Better, Beyond, NoSpace}

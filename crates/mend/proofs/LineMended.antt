@@ -3,7 +3,7 @@
 use mathlib.Core.Path.{◌≡◌, refl, sym, ap, ◌∙◌}
 use mathlib.Core.Bool.{Bool, true, false, cond, ◌&&◌, and-false}
 use mathlib.Core.List.{List, [], ◌∷◌, ◌++◌, map}
-use Prim.Native.Nat.{ℕ, suc, ◌+◌, ◌≤◌, ◌<◌}
+use Prim.Native.Nat.{ℕ, suc, ◌≤◌, ◌<◌}
 use native.Mathlib.Omega.{arith}
 use borrow.Author.Tests.{le-leb, lt-leb}
 use lib.Dec.{eqb}
@@ -16,7 +16,7 @@ use Rattle.rules.specs.Promise.{panel}
 use Rattle.texts.specs.Form.{Tells, is_derived, right}
 use Rattle.texts.proofs.Rightness.{right_is}
 use Rattle.mend.specs.Repairs.{lone_percent, emptied, square, depth, remarked, flattened, unremarked, repaired}
-use Rattle.mend.specs.Mend.{differs, which, outcome, mended, unmended, mend}
+use Rattle.mend.specs.Mend.{differs, which, outcome, mended, mend}
 use Rattle.mend.specs.Line.{added_up, leaves, put, left_by, Repaired}
 use Rattle.mend.specs.declared.line.Mended.TheVariants.{Already, Better, Beyond, NoSpace}
 use Rattle.mend.specs.declared.line.Repair.{Repair}

@@ -1,14 +1,12 @@
 -- Entries of the list laid into their space.
 -- Assumes nothing.
-use mathlib.Core.Path.{◌≡◌, refl, sym, ap, ◌∙◌}
-use mathlib.Core.Bool.{true, false}
-use mathlib.Core.List.{List, [], ◌∷◌, ◌++◌, append_assoc}
+use mathlib.Core.Path.{◌≡◌, ◌∙◌}
+use mathlib.Core.List.{List, [], ◌∷◌, append_assoc}
 use Prim.Native.Nat.{ℕ, suc, ◌+◌, ◌-◌, ◌≤◌, ◌<◌}
-use native.Mathlib.Numerals.{add-one}
 use native.Mathlib.Omega.{arith}
 use borrow.Author.Tests.{lt-ltb, le-ltb}
-use lib.ListN.{length, take, drop, set, length-set}
-use lib.Seq.{sets, sets-eq}
+use lib.ListN.{length, take, drop, set}
+use lib.Seq.{sets-eq}
 use Rattle.mend.specs.Text.{laid_at, enters, enter}
 
 module _ (list : List ℕ) (used a b d : ℕ) where

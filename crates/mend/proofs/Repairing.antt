@@ -1,6 +1,6 @@
 -- A line's repairs, one laid over the other: the front of the space is then the line's mended text.
 -- Assumes nothing.
-use mathlib.Core.Path.{◌≡◌, refl, sym, ap, ◌∙◌}
+use mathlib.Core.Path.{◌≡◌, sym, ap, ◌∙◌}
 use mathlib.Core.Bool.{false, cond}
 use mathlib.Core.List.{List, ◌++◌}
 use Prim.Native.Nat.{ℕ, ◌+◌, ◌≤◌}

@@ -16,7 +16,6 @@ use Rattle.rules.specs.Frames.{without_return}
 use Rattle.texts.specs.Ends.{Piece, piece, pieces}
 use Rattle.texts.proofs.Cutting.{unfed, unfed_cons, fed, returned, last_is, next_is}
 use Rattle.mend.specs.Cutting.{before_feed, part, Returned, Spans}
-use Rattle.mend.specs.declared.cutting.Span.{Span}
 
 -- ---- one byte passed on the way to a line feed
 module _ (l : List ℕ) (i : ℕ) where

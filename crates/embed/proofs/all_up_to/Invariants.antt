@@ -1,14 +1,9 @@
 -- `embed::all_up_to` meets its contract: what is to be answered is what the numbers not yet passed decide.
 -- Assumes nothing.
-use mathlib.Core.Path.{◌≡◌, refl, sym, ◌∙◌}
+use mathlib.Core.Path.{◌≡◌}
 use Prim.Native.Nat.{◌≤◌, ◌-◌}
-use native.Mathlib.Omega.{arith}
-use lib.IntN.{pos}
-use lib.ListN.{length, get_or, drop}
-use lib.Seq.{drop-length}
-use borrow.Author.Rules.{rules}
+use lib.ListN.{length, drop}
 use Rattle.embed.specs.Packing.{all_up_to}
-use Rattle.embed.proofs.Held.{read_up_to, passed, failed, held_next, held_not}
 use Rattle.embed.proofs.all_up_to.Given as goal
 
 abbrev pub invariant-loop-i : goal.invariant-loop-i

@@ -1,7 +1,6 @@
 -- `embed::answered` meets its contract.
 -- Assumes nothing.
 use mathlib.Core.Path.{ap, sym}
-use borrow.Author.Rules.{rules}
 use Rattle.rules.specs.declared.Answer.{Answer}
 use Rattle.embed.specs.Packing.{answered}
 use Rattle.embed.proofs.answered.Goals as goal

@@ -2,10 +2,8 @@
 -- Assumes nothing.
 use mathlib.Core.Path.{refl, sym, ◌∙◌}
 use lib.ListN.{length}
-use borrow.Author.Rules.{rules}
 use borrow.Author.Tests.{eq-eqb, ne_eqb}
 use Rattle.embed.specs.Packing.{holdable}
-use Rattle.embed.proofs.Held.{passed, failed}
 use Rattle.embed.proofs.holdable.Goals as goal
 
 pub returns-then-rec-ne43 : goal.returns-then-rec-ne43
@@ -15,9 +13,9 @@ returns-then-rec-ne43 c = rw (ne_eqb (length c.args.rec.now) 43 c.if-rec-ne43.tr
 pub returns-then-not-all_up_to : goal.returns-then-not-all_up_to
 unfolding holdable
 returns-then-not-all_up_to c =
-        rw (eq-eqb (length c.args.rec.now) 43 c.if-rec-ne43.false, sym c.all_up_to.ensures ∙ c.if-not-all_up_to.true) refl
+    rw (eq-eqb (length c.args.rec.now) 43 c.if-rec-ne43.false, sym c.all_up_to.ensures ∙ c.if-not-all_up_to.true) refl
 
 pub returns : goal.returns
 unfolding holdable
 returns c =
-        rw (eq-eqb (length c.args.rec.now) 43 c.if-rec-ne43.false, sym c.all_up_to.ensures ∙ c.if-not-all_up_to.false) c.all_up_to-2.ensures
+    rw (eq-eqb (length c.args.rec.now) 43 c.if-rec-ne43.false, sym c.all_up_to.ensures ∙ c.if-not-all_up_to.false) c.all_up_to-2.ensures

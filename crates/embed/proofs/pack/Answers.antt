@@ -1,12 +1,11 @@
 -- `embed::pack` meets its contract.
 -- Assumes nothing.
 use mathlib.Core.Path.{◌∙◌}
-use borrow.Author.Rules.{rules}
 use Rattle.embed.proofs.Runs.{all_runs}
 use Rattle.embed.proofs.pack.Goals as goal
 
 pub returns : goal.returns
 returns c =
-        c.put_quantities.ensures
+    c.put_quantities.ensures
     ∙ rw (c.put_modes.ensures, c.put_place-2.ensures.1, c.put_origins.ensures.1, c.put_place.ensures.1)
     (all_runs c.args.r c.args.rec.now c.requires c.put_place.ensures.0 c.put_origins.ensures.0 c.put_place-2.ensures.0)

@@ -1,9 +1,7 @@
 -- `embed::place_at` meets its contract: those passed are the lengths that the numbers stand for.
 -- Assumes nothing.
 use Prim.Native.Nat.{◌-◌}
-use native.Mathlib.Omega.{arith}
-use borrow.Author.Rules.{rules}
-use Rattle.embed.proofs.Runs.{Reading, read_next, read_all}
+use Rattle.embed.proofs.Runs.{Reading}
 use Rattle.embed.proofs.place_at.Given as goal
 
 abbrev pub invariant-loop-axis : goal.invariant-loop-axis

@@ -4,7 +4,6 @@ use native.Mathlib.Omega.{arith}
 use lib.ListN.{length-set}
 use mir.Facts.{to_z_pos}
 use mir.Syntax.{w64}
-use borrow.Author.Rules.{rules}
 use Rattle.embed.proofs.put_modes.Goals as goal
 
 pub bounds-rec-37 : goal.bounds-rec-37
@@ -12,7 +11,7 @@ bounds-rec-37 c = simp length-set (omega arith)
 
 pub returns : goal.returns
 returns c =
-        simp (
+    simp (
       to_z_pos w64 {n = c.args.motion} (omega arith),
       to_z_pos w64 {n = c.args.plane} (omega arith),
       to_z_pos w64 {n = c.args.distance} (omega arith),

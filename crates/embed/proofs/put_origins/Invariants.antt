@@ -1,9 +1,7 @@
 -- `embed::put_origins` meets its contract: those passed are put.
 -- Assumes nothing.
 use Prim.Native.Nat.{◌-◌}
-use native.Mathlib.Omega.{arith}
-use borrow.Author.Rules.{rules}
-use Rattle.embed.proofs.Runs.{Putting, put_next, put_all}
+use Rattle.embed.proofs.Runs.{Putting}
 use Rattle.embed.proofs.put_origins.Given as goal
 
 abbrev pub invariant-loop-i : goal.invariant-loop-i

@@ -13,7 +13,7 @@ bounds-rec-42 c = simp length-set (omega arith)
 
 pub returns : goal.returns
 returns c =
-        simp (
+    simp (
       back c.args.feed.0 (record { sfits = search rules }),
       back c.args.speed.0 (record { sfits = search rules }),
       to_z_pos w64 {n = c.args.tool} (omega arith),

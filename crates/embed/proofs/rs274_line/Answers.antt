@@ -2,9 +2,8 @@
 -- Assumes nothing.
 use mathlib.Core.Path.{refl, sym, ◌∙◌}
 use mathlib.Core.Bool.{true≢false}
-use borrow.Author.Rules.{rules}
 use Rattle.rules.specs.Promise.{after}
-use Rattle.embed.proofs.Held.{passed, failed, long}
+use Rattle.embed.proofs.Held.{long}
 use Rattle.embed.proofs.rs274_line.Goals as goal
 
 pub returns-then-not-holdable : goal.returns-then-not-holdable
@@ -19,12 +18,12 @@ unpack-requires c = sym c.holdable.ensures ∙ c.if-not-holdable.false
 
 pub pack-requires : goal.pack-requires
 pack-requires c =
-        long c.args.rec.now (sym c.holdable.ensures ∙ c.if-not-holdable.false)
+    long c.args.rec.now (sym c.holdable.ensures ∙ c.if-not-holdable.false)
 
 pub returns : goal.returns
 returns c =
-        let held = sym c.holdable.ensures ∙ c.if-not-holdable.false in
-        record {
+    let held = sym c.holdable.ensures ∙ c.if-not-holdable.false in
+    record {
       held = λ _. (
         after c.work-report.result c.work-report.new.table c.work-report.new.out,
         rw c.unpack.ensures at c.work-report.ensures,

@@ -15,32 +15,32 @@ use Rattle.embed.proofs.unpack.Goals as goal
 pub place_at-requires : goal.place_at-requires
 place_at-requires c =
     let room : length c.args.rec.now ≡ 43 = long c.args.rec.now c.requires in
-     omega (arith, room)
+    omega (arith, room)
 
 pub origins_at-requires : goal.origins_at-requires
 origins_at-requires c =
     let room : length c.args.rec.now ≡ 43 = long c.args.rec.now c.requires in
-     omega (arith, room)
+    omega (arith, room)
 
 pub place_at-requires-2 : goal.place_at-requires-2
 place_at-requires-2 c =
     let room : length c.args.rec.now ≡ 43 = long c.args.rec.now c.requires in
-     omega (arith, room)
+    omega (arith, room)
 
 pub length_at-requires : goal.length_at-requires
 length_at-requires c =
     let room : length c.args.rec.now ≡ 43 = long c.args.rec.now c.requires in
-     omega (arith, room)
+    omega (arith, room)
 
 pub speed_at-requires : goal.speed_at-requires
 speed_at-requires c =
     let room : length c.args.rec.now ≡ 43 = long c.args.rec.now c.requires in
-     omega (arith, room)
+    omega (arith, room)
 
 pub returns : goal.returns
 unfolding unpacked
 returns c =
-        rw (
+    rw (
       c.small_at-3.ensures,
       c.small_at-2.ensures,
       c.small_at.ensures,

@@ -6,10 +6,6 @@ use native.Mathlib.Omega.{arith}
 use Rattle.index.specs.Held.{sought}
 use Rattle.index.proofs.Holding.{present_low}
 use Rattle.index.proofs.Halving.{find_there, find_not}
-use borrow.Author.Rules.{rules}
-use Rattle.index.proofs.entries_of.Reads as entries-of-reads
-use Rattle.index.proofs.first_from.Reads as first-from-reads
-use Rattle.index.proofs.space.stands.Reads as stands-reads
 use Rattle.index.proofs.find.Goals as goal
 
 pub overflow_mul-result : goal.overflow_mul-result

@@ -1,9 +1,7 @@
 -- `index::first_from` meets its contract: the search goes on between low and high.
 -- Assumes nothing.
-use mathlib.Core.Path.{◌≡◌, sym, ◌∙◌}
-use Prim.Native.Nat.{◌-◌, ◌≤◌}
+use mathlib.Core.Path.{sym, ◌∙◌}
 use native.Mathlib.Omega.{arith}
-use Rattle.index.specs.Held.{halved, searched}
 use Rattle.index.proofs.Halving.{halves_all, halve_up, halve_down, halves_none}
 use Rattle.index.proofs.first_from.Goals as goal
 

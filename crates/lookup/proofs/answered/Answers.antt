@@ -1,6 +1,5 @@
 -- `lookup::answered` meets its contract.
 -- Assumes nothing.
-use borrow.Author.Rules.{rules}
 use Rattle.lookup.proofs.answered.Goals as goal
 
 pub returns-in-Entries : goal.returns-in-Entries

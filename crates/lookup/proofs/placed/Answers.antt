@@ -1,6 +1,5 @@
 -- `lookup::placed` meets its contract.
 -- Assumes nothing.
-use borrow.Author.Rules.{rules}
 use Rattle.lookup.proofs.placed.Goals as goal
 
 pub returns-in-At : goal.returns-in-At

@@ -1,17 +1,8 @@
 -- `embed::files::rs274_parameters_read` meets its contract: numbers that a record holds go through it, the file is read into that, and it becomes numbers again.
 -- Assumes nothing.
 use mathlib.Core.Bool.{true≢false}
-use Rattle.embed.proofs.Held.{passed, failed, long}
+use Rattle.embed.proofs.Held.{long}
 use mathlib.Core.Path.{refl, sym, ◌∙◌}
-use mathlib.Core.Bool.{true, false}
-use mathlib.Core.Option.{none}
-use borrow.Author.Rules.{rules}
-use Rattle.embed.specs.Files.{left}
-use Rattle.embed.specs.Packing.{holdable}
-use Rattle.embed.proofs.holdable.Reads as holdable-reads
-use Rattle.embed.proofs.pack.Reads as pack-reads
-use Rattle.embed.proofs.unpack.Reads as unpack-reads
-use Rattle.parameters.proofs.read.Reads as read-reads
 use Rattle.embed.proofs.files.rs274_parameters_read.Goals as goal
 
 pub returns-then-not-holdable : goal.returns-then-not-holdable

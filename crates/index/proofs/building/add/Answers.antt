@@ -5,10 +5,6 @@ use native.Mathlib.Omega.{arith}
 use Rattle.index.specs.Held.{kept}
 use Rattle.index.proofs.Halving.{search_is}
 use Rattle.index.proofs.Holding.{there, not_there, holds_same, added_there, added_new}
-use borrow.Author.Rules.{rules}
-use Rattle.index.proofs.first_from.Reads as first-from-reads
-use Rattle.index.proofs.space.put_at.Reads as put-at-reads
-use Rattle.index.proofs.space.stands.Reads as stands-reads
 use Rattle.index.proofs.building.add.Goals as goal
 
 pub returns-then-stands : goal.returns-then-stands

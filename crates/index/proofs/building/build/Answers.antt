@@ -2,9 +2,6 @@
 -- Assumes nothing.
 use native.Mathlib.Omega.{arith}
 use Rattle.index.proofs.Handing.{long_text, many_numbers, built_index}
-use borrow.Author.Rules.{rules}
-use Rattle.index.proofs.building.copy.Reads as copy-reads
-use Rattle.index.proofs.building.gather.Reads as gather-reads
 use Rattle.index.proofs.building.build.Goals as goal
 
 pub returns-then-text-gt60000 : goal.returns-then-text-gt60000

@@ -1,10 +1,9 @@
 -- `index::building::copy` meets its contract: the first i numbers are copied.
 -- Assumes nothing.
 use mathlib.Core.Path.{◌≡◌, refl}
-use Prim.Native.Nat.{◌-◌, ◌≤◌}
 use native.Mathlib.Omega.{arith}
-use lib.ListN.{length, length-set}
-use lib.Seq.{paste, paste-zero}
+use lib.ListN.{length-set}
+use lib.Seq.{paste-zero}
 use Rattle.index.proofs.Holding.{copied_front}
 use Rattle.index.proofs.building.copy.Goals as goal
 

@@ -1,11 +1,9 @@
 -- `index::building::copy` meets its contract: the first i numbers are copied.
 -- Assumes nothing.
-use mathlib.Core.Path.{◌≡◌, refl}
+use mathlib.Core.Path.{◌≡◌}
 use Prim.Native.Nat.{◌-◌, ◌≤◌}
-use native.Mathlib.Omega.{arith}
-use lib.ListN.{length, length-set}
-use lib.Seq.{paste, paste-zero}
-use Rattle.index.proofs.Holding.{copied_front}
+use lib.ListN.{length}
+use lib.Seq.{paste}
 use Rattle.index.proofs.building.copy.Given as goal
 
 abbrev pub invariant-loop-i : goal.invariant-loop-i

@@ -2,8 +2,6 @@
 -- Assumes nothing.
 use native.Mathlib.Omega.{arith}
 use Rattle.index.proofs.Holding.{holds_same}
-use borrow.Author.Rules.{rules}
-use Rattle.index.proofs.building.add.Reads as add_reads
 use Rattle.index.proofs.building.note.Goals as goal
 
 pub returns-in-N : goal.returns-in-N

@@ -1,7 +1,6 @@
 -- `index::lines::bare_end` meets its contract.
 -- Assumes nothing.
 use Rattle.index.proofs.Walking.{end_empty, end_return, end_plain}
-use borrow.Author.Rules.{rules}
 use Rattle.index.proofs.lines.bare_end.Goals as goal
 
 pub returns-then-feed-at : goal.returns-then-feed-at

@@ -1,11 +1,9 @@
 -- `index::lines::feed_from` meets its contract: no line feed comes before i.
 -- Assumes nothing.
 use Prim.Native.Nat.{◌-◌, ◌≤◌}
-use native.Mathlib.Omega.{arith}
 use lib.ListN.{length}
 use Rattle.texts.proofs.Cutting.{unfed}
 use Rattle.index.specs.Lines.{part}
-use Rattle.index.proofs.Walking.{feed_none, feed_on}
 use Rattle.index.proofs.lines.feed_from.Given as goal
 
 abbrev pub invariant-loop-i : goal.invariant-loop-i

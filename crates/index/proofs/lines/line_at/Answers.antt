@@ -1,9 +1,6 @@
 -- `index::lines::line_at` meets its contract: a line goes up to the next line feed, or to the end of the text.
 -- Assumes nothing.
 use Rattle.index.proofs.Walking.{cut_last, cut_fed}
-use borrow.Author.Rules.{rules}
-use Rattle.index.proofs.lines.bare_end.Reads as bare-end-reads
-use Rattle.index.proofs.lines.feed_from.Reads as feed-from-reads
 use Rattle.index.proofs.lines.line_at.Goals as goal
 
 pub returns-then-feed-text : goal.returns-then-feed-text

@@ -1,10 +1,8 @@
 -- `index::lines::line_of` meets its contract: so many lines are left to line k.
 -- Assumes nothing.
 use Prim.Native.Nat.{◌-◌}
-use native.Mathlib.Omega.{arith}
 use lib.ListN.{length}
-use Rattle.index.proofs.Walking.{OnTheWay, way_none, way_begun, way_found, way_on, way_missing}
-use Rattle.index.proofs.lines.line_at.Reads as line-at-reads
+use Rattle.index.proofs.Walking.{OnTheWay}
 use Rattle.index.proofs.lines.line_of.Given as goal
 
 abbrev pub invariant-loop-at : goal.invariant-loop-at

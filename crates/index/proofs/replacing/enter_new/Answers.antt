@@ -3,10 +3,6 @@
 use native.Mathlib.Omega.{arith}
 use Rattle.index.specs.Held.{kept}
 use Rattle.index.proofs.Holding.{holds_same, entered_there, entered_new}
-use borrow.Author.Rules.{rules}
-use Rattle.index.proofs.replacing.is_up_to.Reads as is-up-to-reads
-use Rattle.index.proofs.space.below.Reads as below-reads
-use Rattle.index.proofs.space.put_at.Reads as put-at-reads
 use Rattle.index.proofs.replacing.enter_new.Goals as goal
 
 pub returns-then-is_up_to : goal.returns-then-is_up_to

@@ -1,19 +1,12 @@
 -- `index::replacing::first_line` meets its contract: the first line from a place on is the first from the beginning.
 -- Assumes nothing.
-use mathlib.Core.Path.{◌≡◌, refl, sym, ap, ◌∙◌}
-use Prim.Native.Nat.{◌+◌, ◌-◌, ◌≤◌}
+use mathlib.Core.Path.{refl, sym, ap, ◌∙◌}
 use native.Mathlib.Omega.{arith}
-use borrow.Author.Rules.{rules}
-use lib.ListN.{length, drop}
-use Rattle.texts.specs.Ends.{pieces}
 use Rattle.texts.proofs.Rightness.{model, model_tells}
 use Rattle.index.specs.Index.{first_from}
 use Rattle.index.specs.Held.{told}
 use Rattle.index.proofs.Bearing.{borne_read}
 use Rattle.index.proofs.Gathering.{first_here, first_on, none_left}
-use Rattle.index.proofs.lines.line_at.Reads as line-at-reads
-use Rattle.index.proofs.replacing.is_number.Reads as is-number-reads
-use Rattle.reader.proofs.line_number.Reads as line-number-reads
 use Rattle.index.proofs.replacing.first_line.Goals as goal
 
 pub loop-at-init : goal.loop-at-init

@@ -1,10 +1,8 @@
 -- `index::replacing::holds_end` meets its contract: the first i bytes are neither.
 -- Assumes nothing.
-use mathlib.Core.Path.{◌≡◌, refl}
-use Prim.Native.Nat.{◌-◌, ◌≤◌}
+use mathlib.Core.Path.{refl}
 use native.Mathlib.Omega.{arith}
-use lib.ListN.{length, drop}
-use Rattle.index.proofs.Ending.{ending, ends_feed, ends_return, ends_on, ends_not}
+use Rattle.index.proofs.Ending.{ends_feed, ends_return, ends_on, ends_not}
 use Rattle.index.proofs.replacing.holds_end.Goals as goal
 
 pub loop-i-init : goal.loop-i-init

@@ -1,10 +1,9 @@
 -- `index::replacing::holds_end` meets its contract: the first i bytes are neither.
 -- Assumes nothing.
-use mathlib.Core.Path.{◌≡◌, refl}
+use mathlib.Core.Path.{◌≡◌}
 use Prim.Native.Nat.{◌-◌, ◌≤◌}
-use native.Mathlib.Omega.{arith}
 use lib.ListN.{length, drop}
-use Rattle.index.proofs.Ending.{ending, ends_feed, ends_return, ends_on, ends_not}
+use Rattle.index.proofs.Ending.{ending}
 use Rattle.index.proofs.replacing.holds_end.Given as goal
 
 abbrev pub invariant-loop-i : goal.invariant-loop-i

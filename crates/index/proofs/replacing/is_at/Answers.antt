@@ -5,9 +5,6 @@ use mathlib.Core.Path.{sym, ap}
 use native.Mathlib.Omega.{arith}
 use Rattle.index.specs.Update.{is_at}
 use Rattle.index.proofs.Holding.{present_low, there, not_there, seek_at, seek_not}
-use borrow.Author.Rules.{rules}
-use Rattle.index.proofs.space.below.Reads as below-reads
-use Rattle.index.proofs.space.stands.Reads as stands-reads
 use Rattle.index.proofs.replacing.is_at.Goals as goal
 
 pub overflow_mul-result : goal.overflow_mul-result

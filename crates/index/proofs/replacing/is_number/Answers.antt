@@ -1,6 +1,5 @@
 -- `index::replacing::is_number` meets its contract.
 -- Assumes nothing.
-use borrow.Author.Rules.{rules}
 use Rattle.index.proofs.replacing.is_number.Goals as goal
 
 pub returns-in-N : goal.returns-in-N

@@ -7,12 +7,6 @@ use Rattle.texts.proofs.Rightness.{model}
 use Rattle.index.specs.Held.{kept, number_of}
 use Rattle.index.proofs.Holding.{holds_same}
 use Rattle.index.proofs.Moving.{moved_same, moved_on, moved_not}
-use borrow.Author.Rules.{rules}
-use Rattle.index.proofs.replacing.first_line.Reads as first-line-reads
-use Rattle.index.proofs.replacing.is_at.Reads as is-at-reads
-use Rattle.index.proofs.replacing.is_number.Reads as is-number-reads
-use Rattle.index.proofs.space.below.Reads as below-reads
-use Rattle.index.proofs.space.put_at.Reads as put-at-reads
 use Rattle.index.proofs.replacing.move_old.Goals as goal
 
 pub returns-then-is_number : goal.returns-then-is_number

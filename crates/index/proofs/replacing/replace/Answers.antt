@@ -6,13 +6,6 @@ use Prim.Native.Nat.{ℕ}
 use native.Mathlib.Omega.{arith}
 use Rattle.index.specs.Held.{kept}
 use Rattle.index.proofs.Handing.{copied_in, entries_of, replaced_30, replaced_32, other_length, ends_inside, replaced_31, replaced_0}
-use borrow.Author.Rules.{rules}
-use Rattle.index.proofs.building.copy.Reads as copy-reads
-use Rattle.index.proofs.lines.line_of.Reads as line-of-reads
-use Rattle.index.proofs.entries_of.Reads as entries-of-reads
-use Rattle.index.proofs.replacing.holds_end.Reads as holds-end-reads
-use Rattle.index.proofs.replacing.update.Reads as update-reads
-use Rattle.index.proofs.replacing.write_line.Reads as write-line-reads
 use Rattle.index.proofs.replacing.replace.Goals as goal
 
 pub returns-then-text-gt60000 : goal.returns-then-text-gt60000

@@ -9,10 +9,6 @@ use Rattle.index.specs.Update.{entered}
 use Rattle.index.proofs.Bearing.{borne_read}
 use Rattle.index.proofs.Holding.{kept_long}
 use Rattle.index.proofs.Moving.{moved_few, brought_is, one_after}
-use borrow.Author.Rules.{rules}
-use Rattle.index.proofs.replacing.enter_new.Reads as enter-new-reads
-use Rattle.index.proofs.replacing.move_old.Reads as move-old-reads
-use Rattle.reader.proofs.line_number.Reads as line-number-reads
 use Rattle.index.proofs.replacing.update.Goals as goal
 
 pub enter_new-requires : goal.enter_new-requires

@@ -1,10 +1,9 @@
 -- `index::replacing::write_line` meets its contract: the first i bytes are written.
 -- Assumes nothing.
 use mathlib.Core.Path.{◌≡◌, refl}
-use Prim.Native.Nat.{◌-◌, ◌≤◌}
 use native.Mathlib.Omega.{arith}
 use lib.ListN.{length, length-set}
-use lib.Seq.{paste, paste-zero}
+use lib.Seq.{paste-zero}
 use Rattle.index.proofs.Holding.{copied}
 use Rattle.index.proofs.replacing.write_line.Goals as goal
 

@@ -1,11 +1,9 @@
 -- `index::replacing::write_line` meets its contract: the first i bytes are written.
 -- Assumes nothing.
-use mathlib.Core.Path.{◌≡◌, refl}
+use mathlib.Core.Path.{◌≡◌}
 use Prim.Native.Nat.{◌-◌, ◌≤◌}
-use native.Mathlib.Omega.{arith}
-use lib.ListN.{length, length-set}
-use lib.Seq.{paste, paste-zero}
-use Rattle.index.proofs.Holding.{copied}
+use lib.ListN.{length}
+use lib.Seq.{paste}
 use Rattle.index.proofs.replacing.write_line.Given as goal
 
 abbrev pub invariant-loop-i : goal.invariant-loop-i

@@ -1,10 +1,6 @@
 -- `index::space::below` meets its contract: i entries have lower numbers.
 -- Assumes nothing.
-use mathlib.Core.Path.{◌≡◌}
-use Prim.Native.Nat.{◌+◌, ◌-◌, ◌≤◌}
 use native.Mathlib.Omega.{arith}
-use lib.ListN.{drop}
-use Rattle.index.specs.Held.{kept, before}
 use Rattle.index.proofs.Holding.{below_here, below_on, below_end}
 use Rattle.index.proofs.space.below.Goals as goal
 

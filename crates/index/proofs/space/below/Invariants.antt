@@ -2,10 +2,8 @@
 -- Assumes nothing.
 use mathlib.Core.Path.{◌≡◌}
 use Prim.Native.Nat.{◌+◌, ◌-◌, ◌≤◌}
-use native.Mathlib.Omega.{arith}
 use lib.ListN.{drop}
 use Rattle.index.specs.Held.{kept, before}
-use Rattle.index.proofs.Holding.{below_here, below_on, below_end}
 use Rattle.index.proofs.space.below.Given as goal
 
 abbrev pub invariant-loop-i : goal.invariant-loop-i

@@ -1,10 +1,7 @@
 -- `index::space::lower` meets its contract: the numbers before i are moved.
 -- Assumes nothing.
 use mathlib.Core.Path.{◌≡◌, refl}
-use Prim.Native.Nat.{◌+◌, ◌-◌, ◌≤◌}
 use native.Mathlib.Omega.{arith}
-use lib.ListN.{length}
-use Rattle.index.specs.Space.{Lowered}
 use Rattle.index.proofs.Holding.{lowered_none, lowered_more}
 use Rattle.index.proofs.space.lower.Goals as goal
 

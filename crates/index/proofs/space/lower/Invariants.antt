@@ -1,11 +1,9 @@
 -- `index::space::lower` meets its contract: the numbers before i are moved.
 -- Assumes nothing.
-use mathlib.Core.Path.{◌≡◌, refl}
+use mathlib.Core.Path.{◌≡◌}
 use Prim.Native.Nat.{◌+◌, ◌-◌, ◌≤◌}
-use native.Mathlib.Omega.{arith}
 use lib.ListN.{length}
 use Rattle.index.specs.Space.{Lowered}
-use Rattle.index.proofs.Holding.{lowered_none, lowered_more}
 use Rattle.index.proofs.space.lower.Given as goal
 
 abbrev pub invariant-loop-i : goal.invariant-loop-i

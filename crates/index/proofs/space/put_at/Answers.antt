@@ -2,11 +2,6 @@
 -- Assumes nothing.
 use native.Mathlib.Omega.{arith}
 use Rattle.index.proofs.Holding.{there, not_there, there_low, low_enough, put_over, put_in, put_out, put_none}
-use borrow.Author.Rules.{rules}
-use Rattle.index.proofs.space.lower.Reads as lower-reads
-use Rattle.index.proofs.space.raise.Reads as raise-reads
-use Rattle.index.proofs.space.stands.Reads as stands-reads
-use Rattle.index.proofs.space.write.Reads as write-reads
 use Rattle.index.proofs.space.put_at.Goals as goal
 
 pub write-requires : goal.write-requires

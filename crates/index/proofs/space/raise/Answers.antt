@@ -1,10 +1,7 @@
 -- `index::space::raise` meets its contract: the numbers from i on are moved.
 -- Assumes nothing.
 use mathlib.Core.Path.{◌≡◌, refl}
-use Prim.Native.Nat.{◌≤◌}
 use native.Mathlib.Omega.{arith}
-use lib.ListN.{length}
-use Rattle.index.specs.Space.{Raised}
 use Rattle.index.proofs.Holding.{raised_none, raised_more}
 use Rattle.index.proofs.space.raise.Goals as goal
 

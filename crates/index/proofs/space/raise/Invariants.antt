@@ -1,11 +1,9 @@
 -- `index::space::raise` meets its contract: the numbers from i on are moved.
 -- Assumes nothing.
-use mathlib.Core.Path.{◌≡◌, refl}
+use mathlib.Core.Path.{◌≡◌}
 use Prim.Native.Nat.{◌≤◌}
-use native.Mathlib.Omega.{arith}
 use lib.ListN.{length}
 use Rattle.index.specs.Space.{Raised}
-use Rattle.index.proofs.Holding.{raised_none, raised_more}
 use Rattle.index.proofs.space.raise.Given as goal
 
 abbrev pub invariant-loop-i : goal.invariant-loop-i

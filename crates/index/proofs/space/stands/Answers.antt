@@ -1,7 +1,6 @@
 -- `index::space::stands` meets its contract.
 -- Assumes nothing.
 use borrow.Author.Tests.{lt-ltb, le-ltb}
-use borrow.Author.Rules.{rules}
 use Rattle.index.proofs.space.stands.Goals as goal
 
 pub returns-then-i-count : goal.returns-then-i-count

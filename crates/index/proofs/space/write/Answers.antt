@@ -3,7 +3,6 @@
 use native.Mathlib.Omega.{arith}
 use lib.ListN.{length-set}
 use Rattle.index.proofs.Holding.{wrote}
-use borrow.Author.Rules.{rules}
 use Rattle.index.proofs.space.write.Goals as goal
 
 pub bounds-space-i-2 : goal.bounds-space-i-2

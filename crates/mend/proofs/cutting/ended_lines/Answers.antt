@@ -2,10 +2,7 @@
 -- Assumes nothing.
 use Rattle.mend.proofs.Joining.{ended_here, ended_next, ended_none}
 use native.Mathlib.Omega.{arith}
-use Rattle.mend.specs.Joining.{ended_to, ended_lines}
-use mathlib.Core.Path.{◌≡◌, refl, ◌∙◌}
-use lib.ListN.{length}
-use Prim.Native.Nat.{◌≤◌}
+use mathlib.Core.Path.{refl, ◌∙◌}
 use Rattle.mend.proofs.cutting.ended_lines.Goals as goal
 
 pub loop-i-init : goal.loop-i-init

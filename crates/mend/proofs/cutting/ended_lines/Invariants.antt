@@ -1,9 +1,7 @@
 -- `mend::cutting::ended_lines` meets its contract: the last line feed before i is the one asked for.
 -- Assumes nothing.
-use Rattle.mend.proofs.Joining.{ended_here, ended_next, ended_none}
-use native.Mathlib.Omega.{arith}
 use Rattle.mend.specs.Joining.{ended_to, ended_lines}
-use mathlib.Core.Path.{◌≡◌, refl, ◌∙◌}
+use mathlib.Core.Path.{◌≡◌}
 use lib.ListN.{length}
 use Prim.Native.Nat.{◌≤◌}
 use Rattle.mend.proofs.cutting.ended_lines.Given as goal

@@ -2,10 +2,7 @@
 -- Assumes nothing.
 use Rattle.mend.proofs.Spanning.{feed_next, feed_here, feed_none}
 use native.Mathlib.Omega.{arith}
-use Rattle.mend.specs.Cutting.{before_feed}
-use mathlib.Core.Path.{◌≡◌, refl, ◌∙◌}
-use lib.ListN.{length, drop}
-use Prim.Native.Nat.{◌+◌, ◌-◌}
+use mathlib.Core.Path.{refl, ◌∙◌}
 use Rattle.mend.proofs.cutting.feed_from.Goals as goal
 
 pub loop-i-init : goal.loop-i-init

@@ -1,9 +1,7 @@
 -- `mend::cutting::feed_from` meets its contract: the first line feed from i on is the one asked for.
 -- Assumes nothing.
-use Rattle.mend.proofs.Spanning.{feed_next, feed_here, feed_none}
-use native.Mathlib.Omega.{arith}
 use Rattle.mend.specs.Cutting.{before_feed}
-use mathlib.Core.Path.{◌≡◌, refl, ◌∙◌}
+use mathlib.Core.Path.{◌≡◌}
 use lib.ListN.{length, drop}
 use Prim.Native.Nat.{◌+◌, ◌-◌}
 use Rattle.mend.proofs.cutting.feed_from.Given as goal

@@ -2,7 +2,6 @@
 -- Assumes nothing.
 use Rattle.mend.proofs.Spanning.{last_spans, fed_spans}
 use native.Mathlib.Omega.{arith}
-use borrow.Author.Rules.{rules}
 use Rattle.mend.proofs.cutting.line_at.Goals as goal
 
 pub returns-then-text-feed : goal.returns-then-text-feed

@@ -4,7 +4,6 @@ use Prim.Native.Nat.{◌-◌}
 use mathlib.Core.Logic.{inl}
 use Rattle.mend.proofs.Spanning.{unreturned_none, unreturned}
 use native.Mathlib.Omega.{arith}
-use borrow.Author.Rules.{rules}
 use Rattle.mend.proofs.cutting.without_return.Goals as goal
 
 pub returns-then-feed-at : goal.returns-then-feed-at

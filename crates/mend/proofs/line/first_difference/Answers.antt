@@ -2,10 +2,8 @@
 -- Assumes nothing.
 use Rattle.mend.proofs.Differing.{differs_shorter, differs_here, differs_next, differs_longer, differs_none}
 use native.Mathlib.Omega.{arith}
-use Rattle.mend.specs.Mend.{differs}
-use mathlib.Core.Path.{◌≡◌, refl, ◌∙◌}
-use lib.ListN.{length, drop}
-use Prim.Native.Nat.{◌+◌, ◌-◌, ◌≤◌}
+use mathlib.Core.Path.{refl, ◌∙◌}
+use Prim.Native.Nat.{◌+◌}
 use Rattle.mend.proofs.line.first_difference.Goals as goal
 
 pub loop-i-init : goal.loop-i-init

@@ -1,9 +1,7 @@
 -- `mend::line::first_difference` meets its contract: what differs from i on is what differs.
 -- Assumes nothing.
-use Rattle.mend.proofs.Differing.{differs_shorter, differs_here, differs_next, differs_longer, differs_none}
-use native.Mathlib.Omega.{arith}
 use Rattle.mend.specs.Mend.{differs}
-use mathlib.Core.Path.{◌≡◌, refl, ◌∙◌}
+use mathlib.Core.Path.{◌≡◌}
 use lib.ListN.{length, drop}
 use Prim.Native.Nat.{◌+◌, ◌-◌, ◌≤◌}
 use Rattle.mend.proofs.line.first_difference.Given as goal

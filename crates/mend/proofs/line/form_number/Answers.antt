@@ -1,7 +1,6 @@
 -- `mend::form_number` meets its contract.
 -- Assumes nothing.
 use mathlib.Core.Path.{ap}
-use borrow.Author.Rules.{rules}
 use Rattle.reader.specs.declared.line.FormAnswer.{FormAnswer}
 use Rattle.mend.proofs.line.form_number.Goals as goal
 

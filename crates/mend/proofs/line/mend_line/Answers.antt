@@ -5,7 +5,6 @@ use Rattle.mend.proofs.Judging.{form_right, form_wrong}
 use lib.Seq.{length-take-le}
 use mathlib.Core.Path.{sym, ◌∙◌}
 use native.Mathlib.Omega.{arith}
-use borrow.Author.Rules.{rules}
 use Rattle.mend.proofs.line.mend_line.Goals as goal
 
 pub returns-then-form_number-eq0 : goal.returns-then-form_number-eq0

@@ -4,7 +4,6 @@ use Rattle.mend.proofs.Repairing.{plain_front_long, flat_front_long, repaired_pu
 use lib.Seq.{length-take-le}
 use mathlib.Core.Path.{sym, ◌∙◌}
 use native.Mathlib.Omega.{arith}
-use borrow.Author.Rules.{rules}
 use Rattle.mend.proofs.line.repair_line.Goals as goal
 
 pub slice_bounds-copy-end : goal.slice_bounds-copy-end

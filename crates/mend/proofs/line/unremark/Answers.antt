@@ -6,7 +6,6 @@ use lib.Seq.{length-take-le}
 use lib.ListN.{length}
 use mathlib.Core.Path.{sym}
 use native.Mathlib.Omega.{arith}
-use borrow.Author.Rules.{rules}
 use Rattle.mend.proofs.line.unremark.Goals as goal
 
 pub slice_bounds-put_remark-end-then-at-n : goal.slice_bounds-put_remark-end-then-at-n

@@ -1,9 +1,9 @@
 -- `mend::repairs::closed` meets its contract: what is asked from i on, with e open, is what was asked.
 -- Assumes nothing.
 use native.Mathlib.Omega.{arith}
-use mathlib.Core.Path.{◌≡◌, refl, ap, ◌∙◌}
-use Prim.Native.Nat.{ℕ, ◌+◌, ◌-◌, ◌≤◌}
-use lib.ListN.{length, drop}
+use mathlib.Core.Path.{refl, ap, ◌∙◌}
+use Prim.Native.Nat.{ℕ, ◌+◌}
+use lib.ListN.{drop}
 use Rattle.mend.specs.Repairs.{closed}
 use Rattle.mend.proofs.Passing.{closed_here, closed_next, closed_end}
 use Rattle.mend.proofs.repairs.closed.Goals as goal

@@ -1,11 +1,9 @@
 -- `mend::repairs::closed` meets its contract: what is asked from i on, with e open, is what was asked.
 -- Assumes nothing.
-use native.Mathlib.Omega.{arith}
-use mathlib.Core.Path.{◌≡◌, refl, ap, ◌∙◌}
-use Prim.Native.Nat.{ℕ, ◌+◌, ◌-◌, ◌≤◌}
+use mathlib.Core.Path.{◌≡◌}
+use Prim.Native.Nat.{◌-◌, ◌≤◌}
 use lib.ListN.{length, drop}
 use Rattle.mend.specs.Repairs.{closed}
-use Rattle.mend.proofs.Passing.{closed_here, closed_next, closed_end}
 use Rattle.mend.proofs.repairs.closed.Given as goal
 
 abbrev pub invariant-loop-i : goal.invariant-loop-i

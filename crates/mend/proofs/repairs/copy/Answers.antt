@@ -1,10 +1,8 @@
 -- `mend::repairs::copy` meets its contract: the bytes put before i and those of the line from i on are the line.
 -- Assumes nothing.
 use native.Mathlib.Omega.{arith}
-use mathlib.Core.Path.{◌≡◌, refl, ◌∙◌}
-use mathlib.Core.List.{◌++◌}
-use Prim.Native.Nat.{◌-◌, ◌≤◌}
-use lib.ListN.{length, take, drop, length-set, get_or}
+use mathlib.Core.Path.{refl, ◌∙◌}
+use lib.ListN.{length-set, get_or}
 use Rattle.mend.proofs.Placing.{copy_next, copy_end}
 use Rattle.mend.proofs.repairs.copy.Goals as goal
 

@@ -1,11 +1,9 @@
 -- `mend::repairs::copy` meets its contract: the bytes put before i and those of the line from i on are the line.
 -- Assumes nothing.
-use native.Mathlib.Omega.{arith}
-use mathlib.Core.Path.{◌≡◌, refl, ◌∙◌}
+use mathlib.Core.Path.{◌≡◌}
 use mathlib.Core.List.{◌++◌}
 use Prim.Native.Nat.{◌-◌, ◌≤◌}
-use lib.ListN.{length, take, drop, length-set, get_or}
-use Rattle.mend.proofs.Placing.{copy_next, copy_end}
+use lib.ListN.{length, take, drop}
 use Rattle.mend.proofs.repairs.copy.Given as goal
 
 abbrev pub invariant-loop-i : goal.invariant-loop-i

@@ -2,7 +2,6 @@
 -- Assumes nothing.
 use native.Mathlib.Omega.{arith}
 use Rattle.mend.proofs.Passing.{depth_open, depth_close, depth_none}
-use borrow.Author.Rules.{rules}
 use Rattle.mend.proofs.repairs.depth.Goals as goal
 
 pub returns-then-b-eq40 : goal.returns-then-b-eq40

@@ -1,11 +1,8 @@
 -- `mend::repairs::flatten` meets its contract: what came out before i and what is left to do behind it are what is to come out.
 -- Assumes nothing.
 use native.Mathlib.Omega.{arith}
-use mathlib.Core.Path.{◌≡◌, refl, sym, ◌∙◌}
-use mathlib.Core.List.{◌++◌}
-use Prim.Native.Nat.{◌-◌, ◌≤◌}
-use lib.ListN.{length, take, drop, length-set}
-use Rattle.mend.specs.Repairs.{flattened}
+use mathlib.Core.Path.{refl, sym, ◌∙◌}
+use lib.ListN.{length-set}
 use Rattle.mend.proofs.Passing.{flat_next, flat_end}
 use Rattle.mend.proofs.repairs.flatten.Goals as goal
 

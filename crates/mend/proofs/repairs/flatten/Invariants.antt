@@ -1,12 +1,10 @@
 -- `mend::repairs::flatten` meets its contract: what came out before i and what is left to do behind it are what is to come out.
 -- Assumes nothing.
-use native.Mathlib.Omega.{arith}
-use mathlib.Core.Path.{◌≡◌, refl, sym, ◌∙◌}
+use mathlib.Core.Path.{◌≡◌}
 use mathlib.Core.List.{◌++◌}
 use Prim.Native.Nat.{◌-◌, ◌≤◌}
-use lib.ListN.{length, take, drop, length-set}
+use lib.ListN.{length, take, drop}
 use Rattle.mend.specs.Repairs.{flattened}
-use Rattle.mend.proofs.Passing.{flat_next, flat_end}
 use Rattle.mend.proofs.repairs.flatten.Given as goal
 
 abbrev pub invariant-loop-i : goal.invariant-loop-i

@@ -2,7 +2,6 @@
 -- Assumes nothing.
 use native.Mathlib.Omega.{arith}
 use Rattle.mend.proofs.Placing.{lone_none, lone_other, lone_more, lone_is}
-use borrow.Author.Rules.{rules}
 use Rattle.mend.proofs.repairs.lone_percent.Goals as goal
 
 pub returns-then-line-i : goal.returns-then-line-i

@@ -1,10 +1,7 @@
 -- `mend::repairs::past_blanks` meets its contract: the first place without a blank from i on is the one asked for.
 -- Assumes nothing.
 use native.Mathlib.Omega.{arith}
-use mathlib.Core.Path.{◌≡◌, refl, sym, ◌∙◌}
-use Prim.Native.Nat.{◌+◌, ◌-◌}
-use lib.ListN.{length, drop}
-use Rattle.mend.specs.Places.{blanks_in}
+use mathlib.Core.Path.{refl, sym, ◌∙◌}
 use Rattle.mend.proofs.Placing.{blanks_next, blanks_stop, blanks_end}
 use Rattle.mend.proofs.repairs.past_blanks.Goals as goal
 

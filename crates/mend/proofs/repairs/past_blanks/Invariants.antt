@@ -1,11 +1,9 @@
 -- `mend::repairs::past_blanks` meets its contract: the first place without a blank from i on is the one asked for.
 -- Assumes nothing.
-use native.Mathlib.Omega.{arith}
-use mathlib.Core.Path.{◌≡◌, refl, sym, ◌∙◌}
+use mathlib.Core.Path.{◌≡◌}
 use Prim.Native.Nat.{◌+◌, ◌-◌}
 use lib.ListN.{length, drop}
 use Rattle.mend.specs.Places.{blanks_in}
-use Rattle.mend.proofs.Placing.{blanks_next, blanks_stop, blanks_end}
 use Rattle.mend.proofs.repairs.past_blanks.Given as goal
 
 abbrev pub invariant-loop-i : goal.invariant-loop-i

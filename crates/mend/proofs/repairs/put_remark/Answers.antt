@@ -3,7 +3,7 @@
 use native.Mathlib.Omega.{arith}
 use mathlib.Core.Path.{◌≡◌, refl, ap, ◌∙◌}
 use mathlib.Core.List.{◌++◌}
-use Prim.Native.Nat.{ℕ, ◌-◌, ◌≤◌}
+use Prim.Native.Nat.{ℕ}
 use lib.ListN.{length, take, drop, length-set}
 use Rattle.grammar.specs.Bytes.{byte}
 use Rattle.mend.specs.Places.{remark_bytes}
@@ -29,12 +29,11 @@ pub loop-i-smaller : goal.loop-i-smaller
 loop-i-smaller c = omega arith
 
 pub loop-i-preserved : goal.loop-i-preserved
-loop-i-preserved c =
-    (
-      omega arith,
-      length-set c.loop-i.out c.loop-i.i c.remark_byte.result ∙ c.loop-i.invariant.1,
-      bytes_next c.args.line.now c.loop-i.out c.args.at c.loop-i.i c.remark_byte.result (omega arith) (omega arith) c.remark_byte.ensures ∙ c.loop-i.invariant.2,
-    )
+loop-i-preserved c = (
+  omega arith,
+  length-set c.loop-i.out c.loop-i.i c.remark_byte.result ∙ c.loop-i.invariant.1,
+  bytes_next c.args.line.now c.loop-i.out c.args.at c.loop-i.i c.remark_byte.result (omega arith) (omega arith) c.remark_byte.ensures ∙ c.loop-i.invariant.2,
+)
 
 pub bounds-out-n : goal.bounds-out-n
 bounds-out-n c = omega arith

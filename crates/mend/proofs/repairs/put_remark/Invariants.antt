@@ -1,13 +1,10 @@
 -- `mend::repairs::put_remark` meets its contract: the bytes put before i and those left behind it are the line with its remark.
 -- Assumes nothing.
-use native.Mathlib.Omega.{arith}
-use mathlib.Core.Path.{◌≡◌, refl, ap, ◌∙◌}
+use mathlib.Core.Path.{◌≡◌}
 use mathlib.Core.List.{◌++◌}
-use Prim.Native.Nat.{ℕ, ◌-◌, ◌≤◌}
-use lib.ListN.{length, take, drop, length-set}
-use Rattle.grammar.specs.Bytes.{byte}
+use Prim.Native.Nat.{◌-◌, ◌≤◌}
+use lib.ListN.{length, take, drop}
 use Rattle.mend.specs.Places.{remark_bytes}
-use Rattle.mend.proofs.Placing.{bytes_next, bytes_end}
 use Rattle.mend.proofs.repairs.put_remark.Given as goal
 
 abbrev pub invariant-loop-i : goal.invariant-loop-i

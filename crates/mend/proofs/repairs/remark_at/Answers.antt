@@ -1,10 +1,7 @@
 -- `mend::repairs::remark_at` meets its contract: what stands before i, and before the remark from i on, is what stands before it.
 -- Assumes nothing.
 use native.Mathlib.Omega.{arith}
-use mathlib.Core.Path.{◌≡◌, sym, ◌∙◌}
-use Prim.Native.Nat.{◌+◌, ◌-◌, ◌≤◌}
-use lib.ListN.{length, drop}
-use Rattle.mend.specs.Places.{remark_at}
+use mathlib.Core.Path.{sym, ◌∙◌}
 use Rattle.mend.proofs.Passing.{remark_here, remark_next, remark_end}
 use Rattle.mend.proofs.repairs.remark_at.Goals as goal
 
@@ -31,12 +28,11 @@ pub loop-i-smaller : goal.loop-i-smaller
 loop-i-smaller c = omega arith
 
 pub loop-i-preserved : goal.loop-i-preserved
-loop-i-preserved c =
-    (
-      omega (arith, c.depth-d.ensures.1),
-      omega arith,
-      remark_next c.args.line.now c.loop-i.i c.loop-i.d c.depth-d.result (omega arith) c.depth-d.ensures.0 (sym c.starts_remark.ensures ∙ c.if-starts_remark.false) ∙ c.loop-i.invariant.2,
-    )
+loop-i-preserved c = (
+  omega (arith, c.depth-d.ensures.1),
+  omega arith,
+  remark_next c.args.line.now c.loop-i.i c.loop-i.d c.depth-d.result (omega arith) c.depth-d.ensures.0 (sym c.starts_remark.ensures ∙ c.if-starts_remark.false) ∙ c.loop-i.invariant.2,
+)
 
 pub returns : goal.returns
 returns c =

@@ -1,11 +1,9 @@
 -- `mend::repairs::remark_at` meets its contract: what stands before i, and before the remark from i on, is what stands before it.
 -- Assumes nothing.
-use native.Mathlib.Omega.{arith}
-use mathlib.Core.Path.{◌≡◌, sym, ◌∙◌}
+use mathlib.Core.Path.{◌≡◌}
 use Prim.Native.Nat.{◌+◌, ◌-◌, ◌≤◌}
 use lib.ListN.{length, drop}
 use Rattle.mend.specs.Places.{remark_at}
-use Rattle.mend.proofs.Passing.{remark_here, remark_next, remark_end}
 use Rattle.mend.proofs.repairs.remark_at.Given as goal
 
 abbrev pub invariant-loop-i : goal.invariant-loop-i

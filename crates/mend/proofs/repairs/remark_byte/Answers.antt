@@ -3,7 +3,6 @@
 use native.Mathlib.Omega.{arith}
 use mathlib.Core.Path.{◌∙◌}
 use Rattle.mend.proofs.Placing.{byte_before, byte_here, byte_behind}
-use borrow.Author.Rules.{rules}
 use Rattle.mend.proofs.repairs.remark_byte.Goals as goal
 
 pub returns-then-i-at : goal.returns-then-i-at

@@ -4,7 +4,6 @@ use native.Mathlib.Omega.{arith}
 use mathlib.Core.Path.{sym, ◌∙◌}
 use lib.ListN.{drop}
 use Rattle.mend.proofs.Passing.{turned_outside, turned_last, turned_in, turned_open}
-use borrow.Author.Rules.{rules}
 use Rattle.mend.proofs.repairs.turned.Goals as goal
 
 pub returns-then-d-eq0 : goal.returns-then-d-eq0

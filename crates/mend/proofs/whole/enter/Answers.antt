@@ -4,7 +4,6 @@ use Prim.Native.Nat.{◌+◌}
 use lib.ListN.{set, length-set}
 use Rattle.mend.proofs.Listing.{no_entry, an_entry}
 use native.Mathlib.Omega.{arith}
-use borrow.Author.Rules.{rules}
 use Rattle.mend.proofs.whole.enter.Goals as goal
 
 pub returns-then-list-used-lt3 : goal.returns-then-list-used-lt3

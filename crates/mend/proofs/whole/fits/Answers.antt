@@ -1,8 +1,6 @@
 -- `mend::whole::fits` meets its contract: the bytes of the lines before `at` are taken from the room.
 -- Assumes nothing.
-use Rattle.mend.proofs.Fitting.{Still, all_fit, too_long, goes_on}
-use Prim.Native.Nat.{◌-◌, ◌≤◌}
-use lib.ListN.{length}
+use Rattle.mend.proofs.Fitting.{all_fit, too_long, goes_on}
 use mathlib.Core.Path.{refl}
 use native.Mathlib.Omega.{arith}
 use Rattle.mend.proofs.whole.fits.Goals as goal

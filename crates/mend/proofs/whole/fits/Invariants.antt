@@ -1,10 +1,8 @@
 -- `mend::whole::fits` meets its contract: the bytes of the lines before `at` are taken from the room.
 -- Assumes nothing.
-use Rattle.mend.proofs.Fitting.{Still, all_fit, too_long, goes_on}
+use Rattle.mend.proofs.Fitting.{Still}
 use Prim.Native.Nat.{◌-◌, ◌≤◌}
 use lib.ListN.{length}
-use mathlib.Core.Path.{refl}
-use native.Mathlib.Omega.{arith}
 use Rattle.mend.proofs.whole.fits.Given as goal
 
 abbrev pub invariant-loop-at : goal.invariant-loop-at

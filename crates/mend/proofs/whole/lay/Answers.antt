@@ -4,7 +4,6 @@ use Rattle.mend.proofs.Laying.{lay_is}
 use lib.ListN.{length}
 use Prim.Native.Nat.{◌+◌}
 use mathlib.Core.Path.{refl}
-use borrow.Author.Rules.{rules}
 use Rattle.mend.proofs.whole.lay.Goals as goal
 
 pub returns : goal.returns

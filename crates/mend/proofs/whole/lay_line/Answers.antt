@@ -7,7 +7,6 @@ use Rattle.mend.specs.declared.line.Mended.{Mended}
 use Rattle.mend.specs.Line.{leaves}
 use mathlib.Core.Path.{sym, ap, ◌∙◌}
 use native.Mathlib.Omega.{arith}
-use borrow.Author.Rules.{rules}
 use Rattle.mend.proofs.whole.lay_line.Goals as goal
 
 pub slice_bounds-mend_line-count : goal.slice_bounds-mend_line-count

@@ -2,7 +2,6 @@
 -- Assumes nothing.
 use Rattle.mend.proofs.AllPut.{whole_put, none_put}
 use mathlib.Core.Path.{sym, ◌∙◌}
-use borrow.Author.Rules.{rules}
 use Rattle.mend.proofs.whole.mend.Goals as goal
 
 pub put_lines-held-requires : goal.put_lines-held-requires

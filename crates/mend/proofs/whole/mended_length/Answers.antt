@@ -5,7 +5,6 @@ use Rattle.mend.specs.declared.line.Mended.{Mended}
 use Rattle.mend.specs.Line.{leaves}
 use mathlib.Core.Path.{sym, ap, ◌∙◌}
 use native.Mathlib.Omega.{arith}
-use borrow.Author.Rules.{rules}
 use Rattle.mend.proofs.whole.mended_length.Goals as goal
 
 pub returns-in-Already : goal.returns-in-Already

@@ -1,8 +1,6 @@
 -- `mend::whole::put_lines` meets its contract: putting the rest of the text comes to what putting all of it comes to.
 -- Assumes nothing.
-use Rattle.mend.proofs.AllPut.{Put, nothing_put, all_put, next_room, next_put}
-use Prim.Native.Nat.{◌-◌}
-use lib.ListN.{length}
+use Rattle.mend.proofs.AllPut.{nothing_put, all_put, next_room, next_put}
 use native.Mathlib.Omega.{arith}
 use Rattle.mend.proofs.whole.put_lines.Goals as goal
 

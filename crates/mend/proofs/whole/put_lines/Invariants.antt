@@ -1,9 +1,8 @@
 -- `mend::whole::put_lines` meets its contract: putting the rest of the text comes to what putting all of it comes to.
 -- Assumes nothing.
-use Rattle.mend.proofs.AllPut.{Put, nothing_put, all_put, next_room, next_put}
+use Rattle.mend.proofs.AllPut.{Put}
 use Prim.Native.Nat.{◌-◌}
 use lib.ListN.{length}
-use native.Mathlib.Omega.{arith}
 use Rattle.mend.proofs.whole.put_lines.Given as goal
 
 abbrev pub invariant-loop-at : goal.invariant-loop-at

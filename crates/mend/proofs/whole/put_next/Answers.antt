@@ -2,7 +2,6 @@
 -- Assumes nothing.
 use Rattle.mend.proofs.Putting.{end_room, put_listed, put_unlisted}
 use native.Mathlib.Omega.{arith}
-use borrow.Author.Rules.{rules}
 use Rattle.mend.proofs.whole.put_next.Goals as goal
 
 pub lay_line-noted-requires : goal.lay_line-noted-requires
