@@ -100,5 +100,12 @@ fn main(rt: HostRuntime) -> io::Result<()> {
     let mut out = [0i64; 8000];
     let mut text = [0u8; 657];
     let held = read_full(&mut rt.stdin(), &mut bytes)?;
-    work_parts(&rt, &bytes[..held], &mut line, &mut table, &mut out, &mut text)
+    work_parts(
+        &rt,
+        &bytes[..held],
+        &mut line,
+        &mut table,
+        &mut out,
+        &mut text,
+    )
 }
