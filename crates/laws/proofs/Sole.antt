@@ -1,5 +1,5 @@
 -- Two results that one contract allows are equal. It is said of the contract that the source has (`F.ended` and `F.clauses`), for every function,
--- proved by hand or not: `f-sole : Sole f.ended (λ M. f.clauses)`.
+-- proved by hand or not: `f_sole : Sole f.ended (λ M 𝓤. f.clauses)`.
 -- Assumes nothing.
 use mathlib.Core.Path.{◌≡◌, sym, ◌∙◌}
 use seplogic.Ra.Ura.{Ura}

@@ -1,4 +1,4 @@
--- Lines that can be mistaken, mended by computation. `only` and `model-tells` say that these are the definitions' results.
+-- Lines that can be mistaken, mended by computation. `only` and `model_tells` say that these are the definitions' results.
 -- Assumes nothing.
 use mathlib.Core.Path.{◌≡◌, refl}
 use mathlib.Core.List.{List, [], ◌∷◌, ◌++◌, map}

@@ -1,4 +1,4 @@
--- Of the decimals of a number the first five tell its value (`first-five`): whatever digits come after them write less than one of their units.
+-- Of the decimals of a number the first five tell its value (`first_five`): whatever digits come after them write less than one of their units.
 -- Assumes nothing.
 use mathlib.Core.Path.{◌≡◌, refl, sym, ap, ◌∙◌}
 use mathlib.Core.Bool.{Bool, true, false, cond, and-eq-true_iff}

@@ -11,7 +11,7 @@ use Rattle.reader.specs.declared.terms.Pending.{Pending}
 use Rattle.reader.specs.declared.terms.Pending.TheVariants.{Clear, Waits}
 use Rattle.reader.specs.declared.terms.State.{State}
 
--- the arithmetic of crate `arithmetic`, which answers for values out of range too; `guarded-line` says that no line tells it from the rules' arithmetic
+-- the arithmetic of crate `arithmetic`, which answers for values out of range too; `guarded_line` says that no line tells it from the rules' arithmetic
 abbrev pub guarded : List ℤ → Arithmetic Worked Entry
 guarded table = record {
   number_of = number_of;

@@ -1,5 +1,5 @@
--- What a written number comes to, as a reader can work it out digit by digit: up to four decimals as they stand (`few-decimals`), and with more by the fifth alone
--- (`by-fifth-digit`).
+-- What a written number comes to, as a reader can work it out digit by digit: up to four decimals as they stand (`few_decimals`), and with more by the fifth alone
+-- (`by_fifth_digit`).
 -- Assumes nothing.
 use mathlib.Core.Path.{◌≡◌, refl, ap, ◌∙◌}
 use mathlib.Core.Bool.{Bool, true, false, cond}

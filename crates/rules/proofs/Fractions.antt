@@ -1,5 +1,5 @@
 -- Number 14 and true roots: a pair is refused exactly when two fractions show it, one at most the longer root and one at least the shorter, that
--- lie more than t apart (`shown-unequal`, `unequal-shown`). The witness, in steps of 1 / d with d large enough: the shorter root rounded up, and t and a step more.
+-- lie more than t apart (`shown_unequal`, `unequal_shown`). The witness, in steps of 1 / d with d large enough: the shorter root rounded up, and t and a step more.
 -- Assumes nothing.
 use mathlib.Core.Path.{◌≡◌, refl, sym, ap, ◌∙◌, subst}
 use mathlib.Core.Bool.{Bool, true, false}

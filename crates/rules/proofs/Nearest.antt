@@ -1,5 +1,5 @@
 -- The rounding fact, once for any divisor d that is not 0: the whole number nearest to n / d, and of two equally near the one further from zero, is `nearest n d`
--- (`nearest-meets`) and no other (`nearest-is`), so that two are equal (`nearest-one`). `*`, `/`, ROUND, whole numbers and tenths all rest on it.
+-- (`nearest_meets`) and no other (`nearest_is`), so that two are equal (`nearest_one`). `*`, `/`, ROUND, whole numbers and tenths all rest on it.
 -- Assumes nothing.
 use mathlib.Core.Path.{◌≡◌, refl, sym, ap, ◌∙◌}
 use mathlib.Core.Bool.{Bool, true, false}

@@ -1,4 +1,4 @@
--- Number 4 "is kept in the list and shown never to occur" (`never-4`).
+-- Number 4 "is kept in the list and shown never to occur" (`never_4`).
 -- Assumes nothing.
 use mathlib.Core.Path.{◌≡◌, ap, ◌∙◌, sym, subst}
 use mathlib.Core.Bool.{Bool}

@@ -1,5 +1,5 @@
--- A letter is given twice exactly when there are fewer different letters than words (`twice-is`); and the summary of a line does not depend on the order of its
--- words (`block-swap`: two neighbours change places).
+-- A letter is given twice exactly when there are fewer different letters than words (`twice_is`); and the summary of a line does not depend on the order of its
+-- words (`block_swap`: two neighbours change places).
 -- Assumes nothing.
 use mathlib.Core.Path.{◌≡◌, refl, ap, ◌∙◌, sym, subst}
 use mathlib.Core.Bool.{Bool, true, false, cond, not, ◌||◌}

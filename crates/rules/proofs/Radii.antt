@@ -1,5 +1,5 @@
--- Number 14 by true distances: whenever fractions show that two roots lie more than t apart, the pair is refused (`too-unequal`); whenever they
--- show that the roots lie within t, it passes (`near-enough`); and what passes also passed by roots rounded down (`narrower`).
+-- Number 14 by true distances: whenever fractions show that two roots lie more than t apart, the pair is refused (`too_unequal`); whenever they
+-- show that the roots lie within t, it passes (`near_enough`); and what passes also passed by roots rounded down (`narrower`).
 -- Assumes nothing.
 use mathlib.Core.Path.{◌≡◌, refl, sym, ◌∙◌, subst}
 use mathlib.Core.Bool.{Bool, true, false}

@@ -1,5 +1,5 @@
 -- The promise read one number at a time, as document 01's table of numbers is read. `told`: each number with its condition. `untold`: those sentences say no less
--- than the promise. `exactly`: a number is given "exactly when no earlier one applies and" its condition holds; a skip, which has two causes, `skips-exactly`.
+-- than the promise. `exactly`: a number is given "exactly when no earlier one applies and" its condition holds; a skip, which has two causes, `skips_exactly`.
 -- Assumes nothing.
 use mathlib.Core.Path.{◌≡◌, refl, ap, ◌∙◌, sym, subst}
 use mathlib.Core.Bool.{Bool, true, false, cond, not, ◌&&◌, ◌||◌}

@@ -67,7 +67,7 @@ abbrev pub other_letters : List Said → List ℕ
 other_letters [] = []
 other_letters (w ∷ ws) = cond (among w.letter (bytes "GM")) (other_letters ws) (w.letter ∷ other_letters ws)
 
--- one of the list stands in it twice; that it is so "exactly when there are fewer different letters than words" is the theorem `twice-is`
+-- one of the list stands in it twice; that it is so "exactly when there are fewer different letters than words" is the theorem `twice_is`
 abbrev pub twice : List ℕ → Bool
 twice [] = false
 twice (x ∷ xs) = among x xs || twice xs

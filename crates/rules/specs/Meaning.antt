@@ -33,7 +33,7 @@ negative minus = true
 
 -- a number by its sign, its digits as one whole number, and how many of them stand after the point: "A number may have any decimals; it is taken to the nearest
 -- ten-thousandth, halves away from zero, from all its digits at once. Range is judged after rounding". Number 4 "is kept in the list and shown never to occur"
--- (the theorem `never-4`)
+-- (the theorem `never_4`)
 unfoldable pub written : Bool → ℕ → ℕ → Worked
 written sign digits decimals = ranged (nearest (signed sign (digits * 10000)) (pos (10 ^ decimals)))
 

@@ -1,5 +1,5 @@
 -- A number as it is written, as far as its digits tell its value: up to four decimals by the place of the last, five by one division to the nearest
--- (`five-decimals`), and with more those after the fifth change nothing (`after-fifth`, `cut-to-five`). All of it rests on `few-decimals` and `by-fifth-digit`.
+-- (`five_decimals`), and with more those after the fifth change nothing (`after_fifth`, `cut_to_five`). All of it rests on `few_decimals` and `by_fifth_digit`.
 -- Assumes nothing.
 use mathlib.Core.Path.{◌≡◌, sym, ap, ◌∙◌}
 use mathlib.Core.Bool.{Bool, true, false}

@@ -1,4 +1,4 @@
--- `arithmetic::functions::fup` meets its contract: up is down for the negative (`upward-by`).
+-- `arithmetic::functions::fup` meets its contract: up is down for the negative (`upward_by`).
 -- Assumes nothing.
 use Rattle.arithmetic.proofs.Sizes.{upward_by}
 use mathlib.Core.Path.{◌∙◌}

@@ -1,4 +1,4 @@
--- `arithmetic::functions::round` meets its contract: units by the size rounded to the nearest (`rounded-by`).
+-- `arithmetic::functions::round` meets its contract: units by the size rounded to the nearest (`rounded_by`).
 -- Assumes nothing.
 use Rattle.arithmetic.proofs.Sizes.{rounded_by}
 use mathlib.Core.Path.{◌∙◌}

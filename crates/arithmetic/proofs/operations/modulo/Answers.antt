@@ -1,4 +1,4 @@
--- `arithmetic::operations::modulo` meets its contract: what the sizes leave over, by the sign of the dividend (`modulo-is`).
+-- `arithmetic::operations::modulo` meets its contract: what the sizes leave over, by the sign of the dividend (`modulo_is`).
 -- Assumes nothing.
 use mathlib.Core.Path.{◌∙◌}
 use Rattle.arithmetic.proofs.Sizes.{modulo_is, no_divisor}

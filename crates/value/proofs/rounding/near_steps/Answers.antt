@@ -1,4 +1,4 @@
--- `value::rounding::near_steps` meets its contract: sizes are rounded, and the sign is put back (`near-is`).
+-- `value::rounding::near_steps` meets its contract: sizes are rounded, and the sign is put back (`near_is`).
 -- Assumes nothing.
 use Rattle.rules.specs.declared.Near.TheVariants.{To}
 use Rattle.laws.proofs.Ints.{back}
