@@ -13,29 +13,19 @@ use Rattle.embed.proofs.Held.{long, mode, small}
 use Rattle.embed.proofs.unpack.Goals as goal
 
 pub place_at-requires : goal.place_at-requires
-place_at-requires c =
-    let room : length c.args.rec.now ≡ 43 = long c.args.rec.now c.requires in
-    omega (arith, room)
+place_at-requires c = omega (arith, long c.args.rec.now c.requires)
 
 pub origins_at-requires : goal.origins_at-requires
-origins_at-requires c =
-    let room : length c.args.rec.now ≡ 43 = long c.args.rec.now c.requires in
-    omega (arith, room)
+origins_at-requires c = omega (arith, long c.args.rec.now c.requires)
 
 pub place_at-requires-2 : goal.place_at-requires-2
-place_at-requires-2 c =
-    let room : length c.args.rec.now ≡ 43 = long c.args.rec.now c.requires in
-    omega (arith, room)
+place_at-requires-2 c = omega (arith, long c.args.rec.now c.requires)
 
 pub length_at-requires : goal.length_at-requires
-length_at-requires c =
-    let room : length c.args.rec.now ≡ 43 = long c.args.rec.now c.requires in
-    omega (arith, room)
+length_at-requires c = omega (arith, long c.args.rec.now c.requires)
 
 pub speed_at-requires : goal.speed_at-requires
-speed_at-requires c =
-    let room : length c.args.rec.now ≡ 43 = long c.args.rec.now c.requires in
-    omega (arith, room)
+speed_at-requires c = omega (arith, long c.args.rec.now c.requires)
 
 pub returns : goal.returns
 unfolding unpacked

@@ -7,18 +7,15 @@ use Prim.Native.Nat.{ℕ, zero, suc, ◌+◌, ◌-◌, ◌≤◌, ◌<◌}
 use native.Mathlib.Numerals.{add-one}
 use native.Mathlib.Omega.{arith}
 use lib.IntN.{ℤ, pos}
-use lib.ListN.{length, take, drop, get_or, drop_of_length-le}
+use lib.ListN.{length, take, get_or, drop_of_length-le}
 use lib.Seq.{drop-cons}
 use mir.Syntax.{w64}
 use mir.ValLaws.{to_z-of_z}
 use borrow.Author.Rules.{rules}
 use Rattle.rules.specs.Numbers.{in_range}
 use Rattle.block.specs.Execution.{all_in_range}
+use Rattle.block.proofs.words.all_ranged.Invariants.{ahead}
 use Rattle.block.proofs.words.all_ranged.Goals as goal
-
--- the values from place i on, of the first `count`
-abbrev ahead : List ℤ → ℕ → ℕ → List ℤ
-ahead vs count i = take (count - i) (drop i vs)
 
 module _ (vs : List ℤ) (count i : ℕ) where
   next : i < count → i < length vs → ahead vs count i ≡ get_or vs i (pos 0) ∷ ahead vs count (i + 1)

@@ -9,7 +9,7 @@ use Rattle.block.specs.Execution.{all_in_range}
 use Rattle.block.proofs.words.all_ranged.Given as goal
 
 -- the values from place i on, of the first `count`
-abbrev ahead : List ℤ → ℕ → ℕ → List ℤ
+abbrev pub ahead : List ℤ → ℕ → ℕ → List ℤ
 ahead vs count i = take (count - i) (drop i vs)
 
 abbrev pub invariant-loop-i : goal.invariant-loop-i
