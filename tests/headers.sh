@@ -20,4 +20,5 @@ sh tests/link.sh lookup tests/index/index.c $work/index
 sh tests/link.sh "embed panel mend lookup" tests/headers/stack.c $work/stack
 needed=$(nm -u target/staticlib/libembed.a target/staticlib/libpanel.a target/staticlib/libmend.a target/staticlib/liblookup.a | sed -n 's/^ *U //p' | grep -vxE 'mem(cpy|move|set|cmp)' || true)
 [ -z "$needed" ] || { echo "headers: the libraries also need" $needed; exit 1; }
-$work/stack
+# Names are bound first: the stack on which the system looks a name up at its first call is none of the libraries'.
+LD_BIND_NOW=1 $work/stack

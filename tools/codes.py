@@ -70,7 +70,7 @@ def listed(name):
 def table(name, length):
     """The entries of the constant array in one of the source files of crate codes."""
     text = (ROOT / 'crates/codes/src' / name).read_text()
-    body = re.search(r'const GROUPS: \[u8; %d\] = \[(.*?)\];' % length, text, re.S).group(1)
+    body = re.search(r'static GROUPS: \[u8; %d\] = \[(.*?)\];' % length, text, re.S).group(1)
     entries = [int(n) for n in re.findall(r'\d+', re.sub(r'//[^\n]*', '', body))]
     if len(entries) != length:
         sys.exit(f'{name}: {len(entries)} entries, not {length}')

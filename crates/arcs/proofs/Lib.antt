@@ -1,4 +1,5 @@
 pub mod Parts
+pub mod Products
 pub mod Ways
 pub mod BadArc
 pub mod Soles

@@ -1,40 +1,27 @@
 // Arcs: the two faults of number 14. A way leads from the centre to a place and is given by its lengths on the plane's two
-// axes. Radii are compared by their squares, in numbers of two parts where 64 bits do not hold them.
+// axes. Radii are compared by their squares, in 128 bits where 64 do not hold them.
 #![tactic(auto)]
 
 ghost use Rattle.std.specs.Prelude.{◌≡◌, true, ◌*◌, ◌≤◌, eqb, ltb};
 ghost use Rattle.rules.specs.Numbers.{within};
 ghost use Rattle.rules.specs.Arcs.{square, slack, unequal};
 ghost use Rattle.arcs.specs.Ways.{summed, measurable, too_unequal};
-ghost use Rattle.arcs.specs.Wide.{wide, counted};
 
 use rules::Length;
-
-// A number below 2^128 in two parts: high * 2^64 + low.
-#[derive(Clone, Copy)]
-struct Wide {
-    high: u64,
-    low: u64,
-}
 
 // Whether an arc's start is its centre.
 pub fn starts_at_centre(start: [Length; 2]) -> bool
     ensures { result ≡ eqb (summed start) 0 }
 {
-    if !lengths::is_zero_length(start[0]) {
-        return false;
-    }
-    lengths::is_zero_length(start[1])
+    lengths::is_zero_length(start[0]) && lengths::is_zero_length(start[1])
 }
 
 // Whether the radii at an arc's start and end differ by more than the slack.
+#[tactic(auto, unfolding(crate::specs::Ways::too_unequal))]
 pub fn radii_unequal(start: [Length; 2], end: [Length; 2], slack: u16) -> bool
     ensures { result ≡ too_unequal start end slack }
 {
-    if !measurable(start) {
-        return true;
-    }
-    if !measurable(end) {
+    if !(measurable(start) && measurable(end)) {
         return true;
     }
     unequal(slack, summed(start), summed(end))
@@ -44,10 +31,7 @@ pub fn radii_unequal(start: [Length; 2], end: [Length; 2], slack: u16) -> bool
 pub fn slack(units: u16) -> u16
     ensures { result ≡ slack units }
 {
-    if units == 200 {
-        return 508;
-    }
-    200
+    if units == 200 { 508 } else { 200 }
 }
 
 // Whether the roots of two sums of squares differ by more than the slack.
@@ -71,31 +55,8 @@ fn longer(slack: u16, a: u64, b: u64) -> bool
     if a - b <= squared {
         return false;
     }
-    let more = a - b - squared;
-    below(product(b, 4 * squared), product(more, more))
-}
-
-// The product, by halves of 32 bits, so that nothing overflows: the sums in the middle take up what is carried.
-fn product(x: u64, y: u64) -> Wide
-    ensures { result ≡ wide (x * y) }
-{
-    let half: u64 = 4_294_967_296;
-    let low = (x % half) * (y % half);
-    let middle = (x / half) * (y % half) + low / half;
-    let upper = (x % half) * (y / half) + middle % half;
-    Wide {
-        high: (x / half) * (y / half) + middle / half + upper / half,
-        low: upper % half * half + low % half,
-    }
-}
-
-fn below(a: Wide, b: Wide) -> bool
-    ensures { result ≡ ltb (counted a) (counted b) }
-{
-    if a.high == b.high {
-        return a.low < b.low;
-    }
-    a.high < b.high
+    let more = (a - b - squared) as u128;
+    (b as u128 * (4 * squared) as u128) < more * more
 }
 
 fn summed(way: [Length; 2]) -> u64
@@ -108,10 +69,7 @@ fn summed(way: [Length; 2]) -> u64
 fn measurable(way: [Length; 2]) -> bool
     ensures { result ≡ measurable way }
 {
-    if !in_span(way[0]) {
-        return false;
-    }
-    in_span(way[1])
+    in_span(way[0]) && in_span(way[1])
 }
 
 // Whether a length is at most that from one end of the reach to the other.

@@ -11,7 +11,8 @@ use borrow.Author.Tests.{eq-eqb, ne_eqb}
 use Rattle.laws.proofs.Ints.{up_neg, dn_neg, diff_is, eq_parts}
 use Rattle.rules.specs.Numbers.{minus, signed, differ, nearest, residue, residue_size, down, upward, rounded}
 use Rattle.rules.specs.Meaning.{ranged, divided}
-use Rattle.rules.specs.declared.Worked.TheVariants.{Bad}
+use Rattle.std.specs.Prelude.{Err}
+use Rattle.rules.specs.declared.Refusal.TheVariants.{ZeroDivisor}
 use Rattle.rules.proofs.Signs.{signed_abs}
 use Rattle.rules.proofs.Nearest.{product_signed, nearest_by}
 use Rattle.value.specs.Guarded.{nearest_size}
@@ -26,7 +27,7 @@ quotient_by : (a b : ℤ) → nearest (a *ℤ pos 10000) b ≡ signed (differ (m
 quotient_by a b = rw (product_signed a (pos 10000), differ_false (minus a)) (nearest_by (minus a) (nat_abs a * 10000) b)
 
 -- a divisor of size m
-pub no_divisor : (b q : ℤ) {m : ℕ} → m ≡ nat_abs b → m ≡ 0 → Bad 6 ≡ divided b q
+pub no_divisor : (b q : ℤ) {m : ℕ} → m ≡ nat_abs b → m ≡ 0 → Err ZeroDivisor ≡ divided b q
 no_divisor b q size e = rw (eq-eqb (nat_abs b) 0 (sym size ∙ e))
 
 divisor : (b q : ℤ) {m : ℕ} → m ≡ nat_abs b → (m ≡ 0 → ⊥) → divided b q ≡ ranged q

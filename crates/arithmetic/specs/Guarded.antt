@@ -1,20 +1,18 @@
 -- What the functions of this crate answer. Where `rules` says it of every number they say the same; what is added here is an answer for arguments
 -- that reading a line never makes: a value out of range.
 -- Assumes nothing.
-use Rattle.std.specs.Prelude.{Bool, cond, List, ℕ, ◌+◌, ◌-◌, ℤ}
+use Rattle.std.specs.Prelude.{Bool, cond, List, ℕ, ◌+◌, ◌-◌, ℤ, Ok, Err}
 use Rattle.grammar.specs.declared.Op.{Op}
 use Rattle.grammar.specs.declared.Func.{Func}
 use Rattle.rules.specs.Numbers.{residue_size}
-use Rattle.rules.specs.Meaning.{ranged, operation, function, parameter_of, entry, then}
-use Rattle.rules.specs.declared.Worked.{Worked}
-use Rattle.rules.specs.declared.Worked.TheVariants.{Good, Bad}
+use Rattle.rules.specs.Meaning.{Worked, ranged, operation, function, parameter_of, entry, then}
 
 -- ---- values that were worked out
 
 -- a value out of range is refused with number 5, whatever it was made from
 abbrev pub kept : Worked → Worked
-kept (Good v) = ranged v.0
-kept (Bad n) = Bad n
+kept (Ok v) = ranged v.0
+kept (Err why) = Err why
 
 -- an operation: the left side is looked at first, then the right
 abbrev pub work : Op → Worked → Worked → Worked

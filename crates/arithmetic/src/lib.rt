@@ -8,44 +8,44 @@ mod residues;
 
 ghost use Rattle.std.specs.Prelude.{◌≡◌, pos, nat_abs, get_or};
 ghost use Rattle.rules.specs.Meaning.{ranged, entry};
+ghost use Rattle.value.specs.Guarded.{Ranged};
 ghost use Rattle.arithmetic.specs.Guarded.{kept, work, apply, lookup};
 
 use functions::function;
 use grammar::{Func, Op};
 use operations::operation;
-use rules::{Parameter, Value, Worked};
+use rules::{Refusal, Value, Worked};
+
+// A value in range, as the operators and functions take it.
+#[derive(Clone, Copy)]
+pub(crate) struct InRange {
+    pub(crate) value: Value,
+    ghost in_range: { Ranged value.0 },
+}
 
 // An operator with its two sides. The left side's refusal comes first.
 pub fn work(op: Op, a: Worked, b: Worked) -> Worked
     ensures { result ≡ work op a b }
 {
-    match checked(a) {
-        Worked::Good(x) => match checked(b) {
-            Worked::Good(y) => operation(op, x, y),
-            Worked::Bad(n) => Worked::Bad(n),
-        },
-        Worked::Bad(n) => Worked::Bad(n),
-    }
+    let x = checked(a)?;
+    let y = checked(b)?;
+    operation(op, InRange { value: x }, InRange { value: y })
 }
 
 // ABS, FIX, FUP or ROUND of an expression.
 pub fn apply(f: Func, a: Worked) -> Worked
     ensures { result ≡ apply f a }
 {
-    match checked(a) {
-        Worked::Good(x) => function(f, x),
-        Worked::Bad(n) => Worked::Bad(n),
-    }
+    let x = checked(a)?;
+    function(f, InRange { value: x })
 }
 
 // The table's entry that a value after `#` names.
 pub fn lookup(table: &[i64], a: Worked) -> Worked
     ensures { result ≡ lookup table.now a }
 {
-    match checked(a) {
-        Worked::Good(x) => entry(table, value::parameter(x)),
-        Worked::Bad(n) => Worked::Bad(n),
-    }
+    let x = checked(a)?;
+    entry(table, value::parameter(x))
 }
 
 // The value itself, where it is in range.
@@ -53,28 +53,26 @@ fn ranged(v: Value) -> Worked
     ensures { result ≡ ranged v.0 }
 {
     if value::in_range(v) {
-        Worked::Good(v)
+        Ok(v)
     } else {
-        Worked::Bad(5)
+        Err(Refusal::OutOfRange)
     }
 }
 
-// Reading a line makes no value out of range; a caller that makes one is answered with 5.
+// Reading a line makes no value out of range; a caller that makes one is answered as out of range.
 fn checked(a: Worked) -> Worked
     ensures { result ≡ kept a }
 {
-    match a {
-        Worked::Good(v) => ranged(v),
-        Worked::Bad(n) => Worked::Bad(n),
-    }
+    let v = a?;
+    ranged(v)
 }
 
-fn entry(table: &[i64], named: Parameter) -> Worked
+fn entry(table: &[i64], named: Option<usize>) -> Worked
     ensures { result ≡ entry table.now named }
 {
     match named {
-        Parameter::Number(n) => entry_at(table, n),
-        Parameter::Outside => Worked::Bad(7),
+        Some(n) => entry_at(table, n),
+        None => Err(Refusal::NoParameter),
     }
 }
 
@@ -85,7 +83,7 @@ fn entry_at(table: &[i64], number: usize) -> Worked
     if number < table.len() {
         ranged(Value(table[number]))
     } else {
-        Worked::Good(Value(0))
+        Ok(Value(0))
     }
 }
 

@@ -2,62 +2,52 @@
 ghost use Rattle.std.specs.Prelude.{◌≡◌, pos, ◌+ℤ◌, ◌-ℤ◌, ◌*ℤ◌};
 ghost use Rattle.rules.specs.Numbers.{nearest, residue, is_true, truth};
 ghost use Rattle.rules.specs.Meaning.{ranged, divided, operation};
-ghost use Rattle.value.specs.Guarded.{Ranged};
 
 use super::residues::left_over;
-use super::{ranged, size};
+use super::{InRange, ranged, size};
 use grammar::Op;
-use rules::{Value, Worked};
+use rules::{Refusal, Value, Worked};
 use value::{is_below_zero, ranged_signed, rounded};
 
-fn sum(a: Value, b: Value) -> Worked
-    requires ranged { Ranged a.0 }
-    requires ranged_2 { Ranged b.0 }
-    ensures { result ≡ ranged (a.0 +ℤ b.0) }
+fn sum(a: InRange, b: InRange) -> Worked
+    ensures { result ≡ ranged (a.value.0 +ℤ b.value.0) }
 {
-    ranged(Value(a.0 + b.0))
+    ranged(Value(a.value.0 + b.value.0))
 }
 
-fn difference(a: Value, b: Value) -> Worked
-    requires ranged { Ranged a.0 }
-    requires ranged_2 { Ranged b.0 }
-    ensures { result ≡ ranged (a.0 -ℤ b.0) }
+fn difference(a: InRange, b: InRange) -> Worked
+    ensures { result ≡ ranged (a.value.0 -ℤ b.value.0) }
 {
-    ranged(Value(a.0 - b.0))
+    ranged(Value(a.value.0 - b.value.0))
 }
 
-fn product(a: Value, b: Value) -> Worked
-    requires ranged { Ranged a.0 }
-    requires ranged_2 { Ranged b.0 }
-    ensures { result ≡ ranged (nearest (a.0 *ℤ b.0) (pos 10000)) }
+fn product(a: InRange, b: InRange) -> Worked
+    ensures { result ≡ ranged (nearest (a.value.0 *ℤ b.value.0) (pos 10000)) }
 {
-    let negative = is_below_zero(a) != is_below_zero(b);
-    ranged_signed(negative, rounded(size(a) * size(b), 10_000))
+    let negative = is_below_zero(a.value) != is_below_zero(b.value);
+    ranged_signed(negative, rounded(size(a.value) * size(b.value), 10_000))
 }
 
-fn quotient(a: Value, b: Value) -> Worked
-    requires ranged { Ranged a.0 }
-    requires ranged_2 { Ranged b.0 }
-    ensures { result ≡ divided b.0 (nearest (a.0 *ℤ pos 10000) b.0) }
+fn quotient(a: InRange, b: InRange) -> Worked
+    ensures { result ≡ divided b.value.0 (nearest (a.value.0 *ℤ pos 10000) b.value.0) }
 {
-    let d = size(b);
+    let d = size(b.value);
     if d == 0 {
-        return Worked::Bad(6);
+        return Err(Refusal::ZeroDivisor);
     }
-    let negative = is_below_zero(a) != is_below_zero(b);
-    ranged_signed(negative, rounded(size(a) * 10_000, d))
+    let negative = is_below_zero(a.value) != is_below_zero(b.value);
+    ranged_signed(negative, rounded(size(a.value) * 10_000, d))
 }
 
-fn modulo(a: Value, b: Value) -> Worked
-    requires { Ranged b.0 }
-    ensures { result ≡ divided b.0 (residue a.0 b.0) }
+fn modulo(a: InRange, b: InRange) -> Worked
+    ensures { result ≡ divided b.value.0 (residue a.value.0 b.value.0) }
 {
-    let d = size(b);
+    let d = size(b.value);
     if d == 0 {
-        return Worked::Bad(6);
+        return Err(Refusal::ZeroDivisor);
     }
-    let negative = is_below_zero(a);
-    ranged_signed(false, left_over(negative, size(a), d))
+    let negative = is_below_zero(a.value);
+    ranged_signed(false, left_over(negative, size(a.value), d))
 }
 
 fn is_true(a: Value) -> bool
@@ -69,17 +59,11 @@ fn is_true(a: Value) -> bool
 fn truth(t: bool) -> Worked
     ensures { result ≡ ranged (truth t) }
 {
-    if t {
-        Worked::Good(Value(10_000))
-    } else {
-        Worked::Good(Value(0))
-    }
+    if t { Ok(Value(10_000)) } else { Ok(Value(0)) }
 }
 
-pub(crate) fn operation(op: Op, a: Value, b: Value) -> Worked
-    requires ranged { Ranged a.0 }
-    requires ranged_2 { Ranged b.0 }
-    ensures { result ≡ operation op a.0 b.0 }
+pub(crate) fn operation(op: Op, a: InRange, b: InRange) -> Worked
+    ensures { result ≡ operation op a.value.0 b.value.0 }
 {
     match op {
         Op::Add => sum(a, b),
@@ -87,8 +71,8 @@ pub(crate) fn operation(op: Op, a: Value, b: Value) -> Worked
         Op::Mul => product(a, b),
         Op::Div => quotient(a, b),
         Op::Mod => modulo(a, b),
-        Op::And => truth(is_true(a) & is_true(b)),
-        Op::Or => truth(is_true(a) | is_true(b)),
-        Op::Xor => truth(is_true(a) != is_true(b)),
+        Op::And => truth(is_true(a.value) & is_true(b.value)),
+        Op::Or => truth(is_true(a.value) | is_true(b.value)),
+        Op::Xor => truth(is_true(a.value) != is_true(b.value)),
     }
 }

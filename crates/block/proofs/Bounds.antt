@@ -8,9 +8,11 @@ use native.Mathlib.Omega.{arith}
 use lib.Dec.{eqb}
 use lib.IntN.{nat_abs}
 use lib.ListN.{set}
+use Rattle.std.specs.Prelude.{Option, None, Some}
+use Rattle.std.specs.Option.{option_map_or}
 use Rattle.laws.proofs.Ints.{within_sum, within_diff, abs_product}
 use Rattle.rules.specs.Codes.{system_number}
-use Rattle.rules.specs.Block.{axis, all_axes, sets_origin, sets_offset, zeroes_offset}
+use Rattle.rules.specs.Block.{amount, axis, all_axes, sets_origin, sets_offset, zeroes_offset}
 use Rattle.rules.specs.Reach.{per_ten_thousandth, converted, ◌plus◌, ◌less◌, nowhere, at, in_reach, in_order, fresh}
 use Rattle.rules.specs.With.{with_origins}
 use Rattle.rules.specs.Steps.{origin_step, offset_step, ready, long, origin_place, origin_of, origin_system, origin, named, origins_set, offset_at, no_offset}
@@ -49,10 +51,10 @@ under_map n f (j ∷ js) h (suc i) = under_map n f js h i
 pub origin_under : (n : ℕ) (os : List Length) (k : ℕ) → Under n os → Under n (origin_of (with_origins os fresh) k)
 origin_under n os k u = under_map n (λ (i : ℕ). at os (origin_place k i)) all_axes (λ i. u (origin_place k i))
 
--- one of two lengths
-one_under : (n : ℕ) (c : Bool) (a b : Length) → nat_abs a.0 ≤ n → nat_abs b.0 ≤ n → nat_abs (cond c a b).0 ≤ n
-one_under n true a b h k = h
-one_under n false a b h k = k
+-- a length by a word, or another
+by_word : (n : ℕ) (w : Option Value) (f : Value → Length) (b : Length) → nat_abs (f (amount w)).0 ≤ n → nat_abs b.0 ≤ n → nat_abs (option_map_or f w b).0 ≤ n
+by_word n None f b h k = k
+by_word n (Some v) f b h k = h
 
 -- ---- sums, differences and words
 pub sum_under : (a b : Length) (m n : ℕ) → nat_abs a.0 ≤ m → nat_abs b.0 ≤ n → nat_abs (a plus b).0 ≤ m + n
@@ -79,7 +81,7 @@ small r e = record {
 
 -- ---- the record as the motion step finds it: a new origin is a word, a new offset the sum of a position, an origin and a word
 named_under : (b : Block) (r : Record) (n i : ℕ) (old : Length) → Ranged b → 253999999746 ≤ n → nat_abs old.0 ≤ n → nat_abs (named b r i old).0 ≤ n
-named_under b r n i old q h k = one_under n (axis b i).given (long r (axis b i)) old (N.le_trans (converted_under r.units (axis b i).value (q.axes i)) h) k
+named_under b r n i old q h k = by_word n (axis b i) (long r) old (N.le_trans (converted_under r.units (amount (axis b i)) (q.axes i)) h) k
 
 origins_under : (b : Block) (r : Record) (n : ℕ) (is : List ℕ) (os : List Length) → Ranged b → 253999999746 ≤ n → Under n os → Under n (origins_set b r is os)
 origins_under b r n [] os q h u = u
@@ -95,11 +97,11 @@ g10_under b m n q h u = under_cond n (sets_origin b) (origins_set b m all_axes m
 -- where the origins are as large as a word
 offset_under : (b : Block) (r : Record) (i : ℕ) → Ranged b → Under 1000000000 r.position → Under 253999999746 r.origins → Under 1000000000 r.offset → nat_abs (offset_at b r i).0 ≤ 1000000000000
 offset_under b r i q p o f =
-    one_under 1000000000000 (axis b i).given ((at r.position i less origin r i) less long r (axis b i)) (at r.offset i)
+    by_word 1000000000000 (axis b i) (λ v. (at r.position i less origin r i) less long r v) (at r.offset i)
     (N.le_trans
-    (less_under (at r.position i less origin r i) (long r (axis b i)) 254999999746 253999999746
+    (less_under (at r.position i less origin r i) (long r (amount (axis b i))) 254999999746 253999999746
     (less_under (at r.position i) (origin r i) 1000000000 253999999746 (p i) (o (origin_place (system_number r.system) i)))
-    (converted_under r.units (axis b i).value (q.axes i)))
+    (converted_under r.units (amount (axis b i)) (q.axes i)))
     (omega arith))
     (N.le_trans (f i) (omega arith))
 

@@ -1,14 +1,15 @@
 -- The order of the numbers, and what a call leaves by the first of them.
 -- Assumes nothing.
 use mathlib.Core.Path.{◌≡◌, refl, sym, ◌∙◌}
-use mathlib.Core.Bool.{Bool, true, false, ◌||◌}
+use mathlib.Core.Bool.{Bool, true, false, cond, ◌||◌}
 use mathlib.Core.List.{List, [], ◌∷◌, ◌++◌}
 use Prim.Native.Nat.{ℕ, ◌*◌, ◌≤◌, ◌<◌}
 use native.Mathlib.Omega.{arith}
-use lib.Dec.{ltb, lit<}
+use lib.Dec.{eqb, ltb, lit<}
 use lib.ListN.{length}
 use lib.IntN.{ℤ}
-use borrow.Author.Tests.{ne_eqb, lt-ltb, le-ltb}
+use borrow.Author.Tests.{eqb-true, eqb-false, ne_eqb, lt-ltb, le-ltb}
+use Rattle.std.specs.Prelude.{Result, Ok, Err}
 use Rattle.rules.specs.Meaning.{Said}
 use Rattle.rules.specs.Block.{block_of, or_else}
 use Rattle.rules.specs.Reach.{in_reach, in_order}
@@ -19,10 +20,13 @@ use Rattle.rules.specs.Promise.{over}
 use Rattle.rules.specs.declared.Block.{Block}
 use Rattle.rules.specs.declared.Record.{Record}
 use Rattle.rules.specs.declared.Answer.TheVariants.{Accepted, Refused}
+use Rattle.rules.specs.declared.Refusal.{Refusal}
+use Rattle.rules.specs.declared.Refusal.TheVariants.{Disorder, OutOfRange, NotServed, Doubled}
+use Rattle.rules.specs.Named.{refusal_of}
 use Rattle.record.proofs.InOrder.{told}
 use Rattle.block.specs.Bounds.{Numbered}
 use Rattle.summary.specs.Words.{said, lettered}
-use Rattle.checks.specs.Modes.{in_modes, early}
+use Rattle.checks.specs.Modes.{in_modes, early, judged}
 use Rattle.checks.proofs.Modes.{early_by}
 use Rattle.block.specs.Judged.{late, remaining}
 use Rattle.block.specs.Execution.{Done, done, done_by, executed, all_in_range, execution}
@@ -43,6 +47,21 @@ first_none : (cs ds : List Case) → Positive cs → first cs ≡ 0 → first (c
 first_none [] ds p e = refl
 first_none ((k when true) ∷ cs) ds p e = let h = p.0 in absurd (omega arith)
 first_none ((k when false) ∷ cs) ds p e = first_none cs ds p.1 e
+
+-- ---- what `judged` tells of the first number
+pub none_judged : (cs : List Case) → Ok (tt {0}) ≡ judged cs → first cs ≡ 0
+none_judged cs e = go (eqb (first cs) 0) refl e
+  where
+    go : (x : Bool) → eqb (first cs) 0 ≡ x → ◌≡◌ {A = Result (Unit {0}) Refusal} (Ok (tt {0})) (cond x (Ok (tt {0})) (Err (refusal_of (first cs)))) → first cs ≡ 0
+    go true p e = eqb-true (first cs) 0 p
+    go false p e = absurd (cc)
+
+pub refusal_judged : (cs : List Case) (why : Refusal) → Err why ≡ judged cs → (first cs ≡ 0 → ⊥) × (refusal_of (first cs) ≡ why)
+refusal_judged cs why e = go (eqb (first cs) 0) refl e
+  where
+    go : (x : Bool) → eqb (first cs) 0 ≡ x → ◌≡◌ {A = Result (Unit {0}) Refusal} (Err why) (cond x (Ok (tt {0})) (Err (refusal_of (first cs)))) → (first cs ≡ 0 → ⊥) × (refusal_of (first cs) ≡ why)
+    go true p e = absurd (cc)
+    go false p e = (eqb-false (first cs) 0 p, cc)
 
 -- ---- numbers 10 to 15, one part after the other
 module _ (b : Block) (m : Record) (room : ℕ) where
@@ -92,7 +111,7 @@ pub ready_reached : (b : Block) (r : Record) → in_order r ≡ true → in_reac
 ready_reached b r e = rw (ready_position b r) (told r e).position
 
 -- ---- what is left by the first number
-pub refused_by : (b : Block) (r : Record) (out : List ℤ) {m : ℕ} (n : ℕ) → m ≡ n → (n ≡ 0 → ⊥) → ◌≡◌ {A = Done} (done (Refused n) r out) (done_by m b r out)
+pub refused_by : (b : Block) (r : Record) (out : List ℤ) {m : ℕ} (n : ℕ) → m ≡ n → (n ≡ 0 → ⊥) → ◌≡◌ {A = Done} (done (Refused (refusal_of n)) r out) (done_by m b r out)
 refused_by b r out n e f = rw (e, ne_eqb n 0 f) refl
 
 pub accepted_by : (b : Block) (r : Record) (out : List ℤ) {m : ℕ} → m ≡ 0
@@ -104,12 +123,12 @@ module _ (ls : List ℕ) (vs : List ℤ) (r : Record) (out : List ℤ) where
   abbrev words : List Said
   words = lettered (said ls vs)
 
-  pub number_1 : in_order r ≡ false → done (Refused 1) r out ≡ execution ls vs r out
+  pub number_1 : in_order r ≡ false → done (Refused Disorder) r out ≡ execution ls vs r out
   unfolding execution
   number_1 e = rw e refl
 
   module _ (ordered : in_order r ≡ true) where
-    pub number_5 : all_in_range vs ≡ false → done (Refused 5) r out ≡ execution ls vs r out
+    pub number_5 : all_in_range vs ≡ false → done (Refused OutOfRange) r out ≡ execution ls vs r out
     unfolding execution
     number_5 e = rw (ordered, e) refl
 
@@ -118,12 +137,12 @@ module _ (ls : List ℕ) (vs : List ℤ) (r : Record) (out : List ℤ) where
       unfolding execution
       by_words = rw (ordered, ranged) refl
 
-      pub number_8 : unserved words ≡ true → done (Refused 8) r out ≡ execution ls vs r out
+      pub number_8 : unserved words ≡ true → done (Refused NotServed) r out ≡ execution ls vs r out
       unfolding executed
       number_8 e = rw e at by_words
 
       module _ (served : unserved words ≡ false) where
-        pub number_9 : doubled words (block_of words) ≡ true → done (Refused 9) r out ≡ execution ls vs r out
+        pub number_9 : doubled words (block_of words) ≡ true → done (Refused Doubled) r out ≡ execution ls vs r out
         unfolding executed
         number_9 e = rw (served, e) at by_words
 

@@ -8,13 +8,14 @@ use native.Mathlib.Omega.{arith}
 use lib.Dec.{T, eqb, leb→le}
 use lib.IntN.{ℤ, nat_abs}
 use lib.ListN.{get_or}
+use Rattle.std.specs.Prelude.{Option, None, Some}
 use Rattle.laws.proofs.Bools.{and_left, and_right}
 use Rattle.grammar.specs.Bytes.{byte}
 use Rattle.grammar.specs.Grammar.{letter}
 use Rattle.rules.specs.Numbers.{in_range}
 use Rattle.rules.specs.Meaning.{Said}
-use Rattle.rules.specs.Block.{word, no_word, block_of}
-use Rattle.rules.specs.declared.Word.{Word}
+use Rattle.rules.specs.Block.{amount, word, block_of}
+use Rattle.rules.specs.declared.Value.{Value}
 use Rattle.summary.specs.Words.{said, lettered}
 use Rattle.block.specs.Bounds.{Ranged}
 use Rattle.block.specs.Execution.{all_in_range}
@@ -37,14 +38,14 @@ lettered_ranged (l ∷ ls) (v ∷ vs) t = go (letter l) (lettered_ranged ls vs (
     go true h = both (in_range v) (all_ranged (lettered (said ls vs))) (and_left (in_range v) (all_in_range vs) t) h
     go false h = h
 
-word_ranged : (b : ℕ) (ws : List Said) → T (all_ranged ws) → nat_abs (word b ws).value.0 ≤ 999999999
+word_ranged : (b : ℕ) (ws : List Said) → T (all_ranged ws) → nat_abs (amount (word b ws)).0 ≤ 999999999
 word_ranged b [] t = omega arith
 word_ranged b (w ∷ ws) t =
     one (eqb w.letter b) (word b ws)
     (leb→le (nat_abs w.value) 999999999 (and_left (in_range w.value) (all_ranged ws) t))
     (word_ranged b ws (and_right (in_range w.value) (all_ranged ws) t))
   where
-    one : (c : Bool) (v : Word) → nat_abs w.value ≤ 999999999 → nat_abs v.value.0 ≤ 999999999 → nat_abs (cond c (record { given = true; value = record { 0 = w.value } }) v).value.0 ≤ 999999999
+    one : (c : Bool) (v : Option Value) → nat_abs w.value ≤ 999999999 → nat_abs (amount v).0 ≤ 999999999 → nat_abs (amount (cond c (Some (record { 0 = w.value })) v)).0 ≤ 999999999
     one true v h k = h
     one false v h k = k
 
@@ -61,7 +62,7 @@ of_words ws e = record {
   p = word_ranged (byte "P") ws e;
 }
   where
-    three : (a b c i : ℕ) → nat_abs (get_or (word a ws ∷ word b ws ∷ word c ws ∷ []) i no_word).value.0 ≤ 999999999
+    three : (a b c i : ℕ) → nat_abs (amount (get_or (word a ws ∷ word b ws ∷ word c ws ∷ []) i None)).0 ≤ 999999999
     three a b c zero = word_ranged a ws e
     three a b c (suc zero) = word_ranged b ws e
     three a b c (suc (suc zero)) = word_ranged c ws e

@@ -2,6 +2,7 @@
 -- Assumes nothing.
 use mathlib.Core.Path.{◌≡◌, refl, ap}
 use mathlib.Core.Bool.{cond}
+use Rattle.std.specs.Option.{is_some, unwrap_or, option_map_or}
 use Rattle.rules.specs.Numbers.{whole, counted}
 use Rattle.rules.specs.Block.{or_else}
 use Rattle.rules.specs.Reach.{converted}
@@ -22,11 +23,11 @@ module _ (b : Block) (r : Record) where
     distance = or_else b.distance r.distance;
     units = or_else b.units r.units;
     system = or_else b.system r.system;
-    feed = cond b.f.given (converted r.units b.f.value) r.feed;
-    speed = cond b.s.given b.s.value r.speed;
-    tool = cond b.t.given (counted (whole b.t.value.0)) r.tool;
-    spindle = cond b.spindle.given (spindle_of b.spindle.code) (cond b.change.given 0 r.spindle);
-    coolant = cond b.coolant.given (coolant_with b.coolant.code r.coolant) r.coolant;
+    feed = option_map_or (converted r.units) b.f r.feed;
+    speed = unwrap_or b.s r.speed;
+    tool = option_map_or (λ v. counted (whole v.0)) b.t r.tool;
+    spindle = option_map_or spindle_of b.spindle (cond (is_some b.change) 0 r.spindle);
+    coolant = option_map_or (λ m. coolant_with m r.coolant) b.coolant r.coolant;
   }
 
   abbrev pub after_g10 : Record

@@ -1,7 +1,7 @@
 -- Ways from an arc's centre: what the code works out on the plane's two axes is what number 14 says of its centre and radii.
 -- Assumes nothing.
 use mathlib.Core.Path.{◌≡◌, refl, sym, ap, ◌∙◌}
-use mathlib.Core.Bool.{Bool, true, ◌&&◌, and-true, and-eq-true_iff}
+use mathlib.Core.Bool.{true, and-eq-true_iff}
 use mathlib.Core.List.{List, [], ◌∷◌, map}
 use Prim.Native.Nat.{ℕ}
 use native.Mathlib.Nat.{le_trans}
@@ -25,12 +25,6 @@ use Rattle.block.proofs.Bounds.{in_reach_holds, less_under}
 use Rattle.block.proofs.Sums.{less_is}
 
 -- ---- two lengths
-pub both_in_reach : (ls : List Length) → length ls ≡ 2 → (within 1000000000 (at ls 0).0 && within 1000000000 (at ls 1).0) ≡ in_reach ls
-both_in_reach [] e = absurd (omega arith)
-both_in_reach (a ∷ []) e = absurd (omega arith)
-both_in_reach (a ∷ b ∷ []) e = ap (λ (t : Bool). within 1000000000 a.0 && t) (sym (and-true (within 1000000000 b.0)))
-both_in_reach (a ∷ b ∷ c ∷ ls) e = absurd (omega arith)
-
 both_ways : (a b : Length) (cs : List Length) → length cs ≡ 2 → ◌≡◌ {A = List Length} ((a less at cs 0) ∷ (b less at cs 1) ∷ []) (ways (a ∷ b ∷ []) cs)
 both_ways a b [] e = absurd (omega arith)
 both_ways a b (c ∷ []) e = absurd (omega arith)

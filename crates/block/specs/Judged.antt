@@ -1,7 +1,7 @@
 -- Numbers 10 to 15 in the parts that are judged one after the other.
 -- Assumes nothing.
-use Rattle.std.specs.Prelude.{Bool, ◌&&◌, ◌||◌, List, [], ◌∷◌, ◌++◌, map, ℕ, ◌*◌, eqb, ltb, length}
-use Rattle.rules.specs.Reach.{◌less◌, at}
+use Rattle.std.specs.Prelude.{Option, None, Some, Bool, false, not, ◌&&◌, ◌||◌, List, [], ◌∷◌, ◌++◌, map, ℕ, ◌*◌, eqb, ltb, length}
+use Rattle.rules.specs.Reach.{◌less◌, at, in_reach}
 use Rattle.rules.specs.Arcs.{arc_move, plane_axes, slack, bad_arc}
 use Rattle.rules.specs.Commands.{commands}
 use Rattle.rules.specs.Refusals.{Case, ◌when◌, wrong_mode, too_far}
@@ -21,6 +21,11 @@ abbrev pub bad_ways : List Length → List Length → List Length → ℕ → �
 bad_ways here to middle plane units =
     eqb (summed (ways (map (at here) (plane_axes plane)) middle)) 0
     || too_unequal (ways (map (at here) (plane_axes plane)) middle) (ways (map (at to) (plane_axes plane)) middle) (slack units)
+
+-- lengths that are not all in reach, where there are any
+abbrev pub beyond : Option (List Length) → Bool
+beyond None = false
+beyond (Some ls) = not (in_reach ls)
 
 -- numbers 12 to 14, by the record as the motion step finds it
 abbrev pub late : Block → Record → List Case

@@ -11,14 +11,11 @@ ghost use Rattle.std.specs.Prelude.{◌≡◌, true, length, take};
 ghost use Rattle.rules.specs.Reach.{in_order};
 ghost use Rattle.rules.specs.Refusals.{first};
 ghost use Rattle.rules.specs.Steps.{ready};
-ghost use Rattle.rules.specs.declared.Answer.TheVariants.{Refused};
 ghost use Rattle.block.specs.Bounds.{Ranged};
-ghost use Rattle.block.specs.Execution.{done_by, execution};
+ghost use Rattle.block.specs.Execution.{done_by, execution, outcome_of};
 ghost use Rattle.block.specs.Judged.{remaining};
 
-use checks::or_else;
-use orders::{Order, Written};
-use rules::{Answer, Block, Outcome, Record};
+use rules::{Answer, Block, Outcome, Record, Refusal};
 
 // Works the words of a line that was read: the first `count` places of the two slices hold them.
 // Whatever they are, and whatever the record and the output space are, what is left is what the
@@ -32,62 +29,57 @@ pub fn execute(
 ) -> Outcome
     ensures { record { outcome = result; out = out.new } ≡ execution (take count letters.now) (take count values.now) rec out.old }
 {
+    match worked(letters, values, count, rec, out) {
+        Ok(outcome) => outcome,
+        Err(why) => Outcome {
+            answer: Answer::Refused(why),
+            rec: rec,
+        },
+    }
+}
+
+// The outcome of a line that is accepted, or the first refusal of one that is not.
+fn worked(
+    letters: &[u8],
+    values: &[i64],
+    count: usize,
+    rec: Record,
+    out: &mut [i64],
+) -> Result<Outcome, Refusal>
+    ensures { record { outcome = outcome_of result rec; out = out.new } ≡ execution (take count letters.now) (take count values.now) rec out.old }
+{
     if !record::in_order(rec) {
-        return refused(1, rec);
+        return Err(Refusal::Disorder);
     }
     if !words::all_ranged(values, count) {
-        return refused(5, rec);
+        return Err(Refusal::OutOfRange);
     }
     let line = summary::summarize(letters, values, count);
     if line.unserved {
-        return refused(8, rec);
+        return Err(Refusal::NotServed);
     }
     if line.doubled {
-        return refused(9, rec);
+        return Err(Refusal::Doubled);
     }
-    let b = line.block;
-    work(b, rec, out)
-}
-
-fn refused(number: u8, rec: Record) -> Outcome
-    ensures { result ≡ record { answer = Refused number; rec = rec } }
-{
-    Outcome {
-        answer: Answer::Refused(number),
-        rec: rec,
-    }
+    work(line.block, rec, out)
 }
 
 // Numbers 10 to 15, and the work of a line that none of them refuses. Nothing is written before all
 // of them are known.
-fn work(b: Block, rec: Record, out: &mut [i64]) -> Outcome
+fn work(b: Block, rec: Record, out: &mut [i64]) -> Result<Outcome, Refusal>
     requires ranged { Ranged b }
     requires rec_value { in_order rec ≡ true }
-    ensures { record { outcome = result; out = out.new } ≡ done_by (first (remaining b (ready b rec) (length out.old))) b rec out.old }
+    ensures { record { outcome = outcome_of result rec; out = out.new } ≡ done_by (first (remaining b (ready b rec) (length out.old))) b rec out.old }
 {
-    let number = checks::early(b, or_else(b.plane, rec.plane), rec.motion);
-    if number != 0 {
-        return refused(number, rec);
-    }
+    checks::early(b, b.plane.unwrap_or(rec.plane), rec.motion)?;
     let m = steps::ready(b, rec);
     let t = motion::travel_of(b, m);
-    let number = limits::late(b, m, t);
-    if number != 0 {
-        return refused(number, rec);
-    }
-    let moving = Order {
-        asked: t.moving,
-        command: motion::move_command(t, m.plane),
-    };
+    limits::late(b, m, t)?;
+    let moving = motion::move_command(t, m.plane);
     let orders = orders::orders_of(b, m.feed, m.speed, m.tool, moving);
-    match orders::write(orders, out) {
-        Written::Commands(count) => {
-            let to = t.to;
-            Outcome {
-                answer: Answer::Accepted(count),
-                rec: steps::left(b, m, to, t.motion),
-            }
-        }
-        Written::NoRoom => refused(15, rec),
-    }
+    let count = orders::write(orders, out).ok_or(Refusal::NoRoom)?;
+    Ok(Outcome {
+        answer: Answer::Accepted(count),
+        rec: steps::left(b, m, t.to.unwrap_or(m.position), t.motion),
+    })
 }

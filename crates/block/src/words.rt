@@ -8,15 +8,10 @@ use rules::Value;
 pub(crate) fn all_ranged(values: &[i64], count: usize) -> bool
     ensures { result ≡ all_in_range (take count values.now) }
 {
-    let mut i = 0;
-    while i < count {
-        if values.len() <= i {
-            return true;
-        }
-        if !value::in_range(Value(values[i])) {
+    for value in &values[..count.min(values.len())] {
+        if !value::in_range(Value(*value)) {
             return false;
         }
-        i += 1;
     }
     true
 }

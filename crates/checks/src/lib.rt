@@ -6,6 +6,6 @@ mod marks;
 mod mode;
 mod words;
 
-pub use marks::{arc_move, ends, has, moves, or_else, plane_axes};
+pub use marks::{arc_move, claims_axes, ends, moves, moving_code, plane_axes};
 pub use mode::wrong_mode;
 pub use words::early;

@@ -2,58 +2,52 @@
 // cannot have.
 ghost use Rattle.std.specs.Prelude.{◌≡◌, cond};
 ghost use Rattle.rules.specs.Block.{all_axes, any_of};
-ghost use Rattle.rules.specs.Refusals.{below0, first, idle, missing, off_plane, outside, wrong_word};
-ghost use Rattle.checks.specs.Modes.{early, in_modes, word_at};
+ghost use Rattle.rules.specs.Refusals.{below0, idle, missing, off_plane, outside, wrong_word};
+ghost use Rattle.checks.specs.Modes.{early, in_modes, judged, word_at};
 
-use super::marks::{any_axis, arc_move, has, moving_code, on_plane};
-use rules::{Block, Near, Word};
+use super::marks::{any_axis, arc_move, moving_code, on_plane};
+use rules::{Block, Refusal, Value};
 
-// The first of numbers 10 and 11, or 0. They are judged before the record is worked, by the plane
-// and the mode of the line's motion.
-pub fn early(b: Block, plane: u16, motion: u16) -> u8
-    ensures { result ≡ first (early b (in_modes plane motion)) }
+// Numbers 10 and 11. They are judged before the record is worked, by the plane and the mode of the
+// line's motion.
+pub fn early(b: Block, plane: u16, motion: u16) -> Result<(), Refusal>
+    ensures { result ≡ judged (early b (in_modes plane motion)) }
 {
     if missing(b, plane, motion) | idle(b, plane, motion) {
-        return 10;
+        return Err(Refusal::MissingOrIdle);
     }
     if wrong_word(b) {
-        return 11;
+        return Err(Refusal::WrongWord);
     }
-    0
+    Ok(())
 }
 
 // Number 10: a needed word is missing.
+#[tactic(auto, unfolding(rules::specs::Refusals::missing, rules::specs::Arcs::arc_move))]
 fn missing(b: Block, plane: u16, motion: u16) -> bool
     ensures { result ≡ missing b (in_modes plane motion) }
 {
-    let once = b.once;
-    let axes = b.axes;
-    let offsets = b.offsets;
-    let asks_axis = has(once, 920) | has(once, 530) | moving_code(b);
-    (has(once, 40) & !b.p.given)
-        | (has(once, 100) & !(b.l.given & b.p.given))
-        | (asks_axis & !any_axis(axes))
-        | (arc_move(b, motion) & !(on_plane(axes, plane) & on_plane(offsets, plane)))
+    let asks_axis = matches!(b.once, Some(920 | 530)) | moving_code(b);
+    ((b.once == Some(40)) & b.p.is_none())
+        | ((b.once == Some(100)) & (b.l.is_none() | b.p.is_none()))
+        | (asks_axis & !any_axis(b.axes))
+        | (arc_move(b, motion) & !(on_plane(b.axes, plane) & on_plane(b.offsets, plane)))
 }
 
 // The one axis off the plane has a word.
-fn off_plane(words: [Word; 3], plane: u16) -> bool
+#[tactic(auto, unfolding(rules::specs::Arcs::plane_axes))]
+fn off_plane(words: [Option<Value>; 3], plane: u16) -> bool
     ensures { result ≡ any_of (word_at words) (off_plane plane all_axes) }
 {
-    if plane == 170 {
-        let word = words[2];
-        return word.given;
+    match plane {
+        170 => words[2].is_some(),
+        180 => words[1].is_some(),
+        _ => words[0].is_some(),
     }
-    if plane == 180 {
-        let word = words[1];
-        return word.given;
-    }
-    let word = words[0];
-    word.given
 }
 
 // I, J or K without an arc move or off its plane.
-fn idle_offset(offsets: [Word; 3], arc: bool, plane: u16) -> bool
+fn idle_offset(offsets: [Option<Value>; 3], arc: bool, plane: u16) -> bool
     ensures { result ≡ any_of (word_at offsets) (cond arc (off_plane plane all_axes) all_axes) }
 {
     if arc {
@@ -63,46 +57,43 @@ fn idle_offset(offsets: [Word; 3], arc: bool, plane: u16) -> bool
 }
 
 // Number 10: a word is idle.
+#[tactic(auto, unfolding(rules::specs::Refusals::idle, rules::specs::Arcs::arc_move))]
 fn idle(b: Block, plane: u16, motion: u16) -> bool
     ensures { result ≡ idle b (in_modes plane motion) }
 {
-    let once = b.once;
-    let offsets = b.offsets;
-    let sets_origin = has(once, 100);
-    (b.p.given & !(has(once, 40) | sets_origin))
-        | (b.l.given & !sets_origin)
-        | idle_offset(offsets, arc_move(b, motion), plane)
+    let sets_origin = b.once == Some(100);
+    (b.p.is_some() & !((b.once == Some(40)) | sets_origin))
+        | (b.l.is_some() & !sets_origin)
+        | idle_offset(b.offsets, arc_move(b, motion), plane)
 }
 
 // The word is given, and below 0.
-fn below_zero(w: Word) -> bool
+fn below_zero(w: Option<Value>) -> bool
     ensures { result ≡ below0 w }
 {
-    w.given & value::is_below_zero(w.value)
+    w.is_some_and(value::is_below_zero)
 }
 
 // The word is given, and counts as no whole number from `low` to `high`.
-fn outside(low: u8, high: u8, w: Word) -> bool
+fn outside(low: u8, high: u8, w: Option<Value>) -> bool
     ensures { result ≡ outside low high w }
 {
-    if w.given {
-        return match value::whole(w.value) {
-            Near::To(n) => (n < (low as i64)) | ((high as i64) < n),
-            Near::Nothing => true,
-        };
+    match w.map(value::whole) {
+        Some(Some(n)) => (n < low as i64) | ((high as i64) < n),
+        Some(None) => true,
+        None => false,
     }
-    false
 }
 
 // Number 11: F, S or G4's P is below 0, or T, L or G10's P is no whole number of its range.
+#[tactic(auto, unfolding(rules::specs::Refusals::wrong_word))]
 fn wrong_word(b: Block) -> bool
     ensures { result ≡ wrong_word b }
 {
-    let once = b.once;
     below_zero(b.f)
         | below_zero(b.s)
-        | (has(once, 40) & below_zero(b.p))
+        | ((b.once == Some(40)) & below_zero(b.p))
         | outside(0, 99, b.t)
         | outside(2, 2, b.l)
-        | (has(once, 100) & outside(1, 9, b.p))
+        | ((b.once == Some(100)) & outside(1, 9, b.p))
 }

@@ -1,14 +1,14 @@
 -- A table's rule at all of its entries, and past its end.
 -- Assumes nothing.
 use mathlib.Core.Path.{◌≡◌, refl, ◌∙◌, ap, sym}
-use mathlib.Core.Bool.{Bool, true, false, cond, ◌&&◌}
+use mathlib.Core.Bool.{Bool, true, false, ◌&&◌}
 use mathlib.Core.List.{List, [], ◌∷◌}
 use Prim.Native.Nat.{ℕ, zero, suc, ◌+◌, ◌<◌, ◌≤◌}
 use native.Mathlib.Nat.{add-zero, zero-add, add-suc, suc-add, le_of_suc-le-suc, not-suc-le-zero}
 use native.Mathlib.Omega.{arith}
 use lib.Dec.{T, ltb, ltb→lt}
 use lib.ListN.{get_or}
-use borrow.Author.Tests.{ne_eqb, ltb-true, ltb-false}
+use borrow.Author.Tests.{ne_eqb}
 use Rattle.laws.proofs.Bools.{and_left, and_right}
 use Rattle.grammar.specs.Bytes.{among}
 use Rattle.rules.specs.Codes.{Group, listed_in, not_served}
@@ -49,11 +49,3 @@ pub past : (n : ℕ) (gs : List Group) → T (all_under n gs) → (code : ℕ) �
 past n [] t code h = refl
 past n ((g holds codes) ∷ gs) t code h =
     rw (not_among n code codes (and_left (under n codes) (all_under n gs) t) h) (past n gs (and_right (under n codes) (all_under n gs) t) code h)
-
--- so what a filled table has for a code, or past its end, is the group that the code is listed in
-pub listed_by : (n : ℕ) (gs : List Group) → T (all_under n gs) → (code : ℕ) → cond (ltb code n) (get_or (filled (listed_in gs) 0 n) code 0) not_served ≡ listed_in gs code
-listed_by n gs t code = by (ltb code n) refl
-  where
-    by : (inside : Bool) → ltb code n ≡ inside → cond inside (get_or (filled (listed_in gs) 0 n) code 0) not_served ≡ listed_in gs code
-    by true e = entry (listed_in gs) n code (ltb-true code n e)
-    by false e = sym (past n gs t code (ltb-false code n e))

@@ -1,27 +1,26 @@
 // The modal group of each G code.
-ghost use Rattle.std.specs.Prelude.{◌≡◌, cond, ltb, get_or};
-ghost use Rattle.rules.specs.Codes.{g_group, not_served};
+ghost use Rattle.std.specs.Prelude.{◌≡◌};
+ghost use Rattle.rules.specs.Codes.{g_group, served};
 
-// The group of a G code, held as ten times the code; 255 where the code is not served.
-pub fn g_group(code: u16) -> u8
-    ensures { result ≡ g_group code }
-{
-    let groups = GROUPS;
-    entry(&groups, code)
-}
-
-// What a table has for a code; past its end nothing is served.
-fn entry(groups: &[u8; 1000], code: u16) -> u8
-    ensures { result ≡ cond (ltb code 1000) (get_or groups.now code 0) not_served }
+// The group of a G code, held as ten times the code, where the code is served. Past the table's end nothing is.
+pub fn g_group(code: u16) -> Option<u8>
+    ensures { result ≡ served (g_group code) }
 {
     if code < 1000 {
-        return groups[code as usize];
+        return served(GROUPS[code as usize]);
     }
-    255
+    None
+}
+
+// 255 stands in the table for no group: a table of options would have a line for each of its 1,000 entries.
+fn served(group: u8) -> Option<u8>
+    ensures { result ≡ served group }
+{
+    (group != 255).then_some(group)
 }
 
 // By ten times the code; the entries of served codes name them.
-const GROUPS: [u8; 1000] = [
+static GROUPS: [u8; 1000] = [
     1, // G0
     255, 255, 255, 255, 255, 255, 255, 255, 255, 1, // G1
     255, 255, 255, 255, 255, 255, 255, 255, 255, 1, // G2

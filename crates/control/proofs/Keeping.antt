@@ -28,12 +28,18 @@ use Rattle.rules.specs.declared.Record.{Record}
 use Rattle.rules.specs.declared.Report.{Report}
 use Rattle.rules.specs.declared.Answer.{Answer}
 use Rattle.rules.specs.declared.Answer.TheVariants.{Accepted, Refused, Skipped}
-use Rattle.reader.specs.Reading.{Spaces, stored, stop_of, outcome, Left, left_for, leaves, Reads}
-use Rattle.reader.specs.declared.line.Reading.{Reading}
-use Rattle.reader.specs.declared.line.Reading.TheVariants.{Read, Stopped, Deep, Wrong, TooLong}
+use Rattle.std.specs.Prelude.{Ok, Err}
+use Rattle.rules.specs.Named.{refusal_of}
+use Rattle.rules.specs.declared.Refusal.{Refusal}
+use Rattle.rules.specs.declared.Refusal.TheVariants.{Disorder, LongLine, TooDeep}
+use Rattle.reader.specs.declared.spaces.Spaces.{Spaces}
+use Rattle.reader.specs.Reading.{Reading, stored, unread_of, stop_of, outcome, Left, left_for, leaves, Reads}
+use Rattle.reader.specs.declared.answer.Read.{Read}
+use Rattle.reader.specs.declared.answer.Unread.{Unread}
+use Rattle.reader.specs.declared.answer.Unread.TheVariants.{Refused as ReadingRefused, Skipped as ReadingSkipped, Deep, Wrong, TooLong}
 use Rattle.summary.specs.Words.{said, lettered}
 use Rattle.block.specs.Execution.{all_in_range, Done, done, done_by, executed, execution}
-use Rattle.control.specs.Worked.{judged_as, stopped_as, unchanged, wrong_at, settings_of, table_after, work_done, finished, worked_by, worked, not_read, lent_after, Lends}
+use Rattle.control.specs.Worked.{judged_as, unchanged, unworked, wrong_at, settings_of, table_after, work_done, finished, worked_by, worked, not_read, lent_after, Lends}
 use Rattle.rules.proofs.Sound.{SoundTook, line_sound}
 use Rattle.reader.proofs.Demand3.{line_counts}
 use Rattle.control.proofs.Words.{line_lettered}
@@ -97,11 +103,23 @@ not_stopped e (inr s) h = s
 
 -- ---- the numbers 8 to 15
 finished_by : (n place : ℕ) (e : Contents Entry) (b : Block) (r : Record) (table out : List ℤ) → (n ≡ 100 → ⊥) → (n ≡ 3 → ⊥) → finished e.work (done_by n b r out) (settings e.entries) table ≡ by_number n place e b r table out
-finished_by n place e b r table out h w = rw (ne_eqb n 100 h, ne_eqb n 3 w) (go (eqb n 0))
+finished_by n place e b r table out h w = rw (ne_eqb n 100 h, ne_eqb n 3 w) (go _ (eqb n 0))
   where
-    go : (c : Bool) → finished e.work (cond c (done_by 0 b r out) (done (Refused n) r out)) (settings e.entries) table ≡ cond c (accepted e b r table out) (leaving (cond c (Accepted 0) (Refused n)) r table out)
-    go true = refl
-    go false = refl
+    go : (why : Refusal) (c : Bool) → finished e.work (cond c (done_by 0 b r out) (done (Refused why) r out)) (settings e.entries) table ≡ cond c (accepted e b r table out) (leaving (cond c (Accepted 0) (Refused why)) r table out)
+    go why true = refl
+    go why false = refl
+
+-- by the number that stopped the reading: 100 is a skip's
+abbrev stopped_as : ℕ → Answer
+stopped_as k = cond (eqb k 100) Skipped (Refused (refusal_of k))
+
+-- what it answers in a record that is in order
+stopped_is : (k : ℕ) (r : Record) (table out : List ℤ) → in_order r ≡ true → after (unworked (unread_of k) r) table out ≡ leaving (stopped_as k) r table out
+stopped_is k r table out q = go (eqb k 100)
+  where
+    go : (c : Bool) → after (unworked (cond c ReadingSkipped (ReadingRefused (refusal_of k))) r) table out ≡ leaving (cond c Skipped (Refused (refusal_of k))) r table out
+    go true = rw q
+    go false = rw q
 
 -- the numbers 5 to 7, and a condition's 100
 refused_by : (k : ℕ) → 5 ≤ k → k ≤ 7 → (cs : List Case) (place : ℕ) (e : Contents Entry) (b : Block) (r : Record) (table out : List ℤ) →
@@ -130,12 +148,12 @@ module _ (line : List ℕ) (switch : Bool) (r : Record) (table out : List ℤ) w
   by_early : {x : After} → ((e : Form (Contents Entry)) → answer_to e line switch r table out ≡ x) → Right line switch r table out x
   by_early h = record { by_tree = λ t d. sym (h (reading table (derived t))); by_place = λ _ n _. sym (h (breaks_at n)) }
 
-  kept_1 : disorder r table ≡ true → Right line switch r table out (leaving (Refused 1) r table out)
+  kept_1 : disorder r table ≡ true → Right line switch r table out (leaving (Refused Disorder) r table out)
   unfolding answer_to
   kept_1 d = by_early (λ e. rw d)
 
   -- a table of another length, and a record out of order
-  pub kept_table : {o : Report} → (length table ≡ 5000 → ⊥) → o ≡ unchanged (Refused 1) r → Right line switch r table out (after o table out)
+  pub kept_table : {o : Report} → (length table ≡ 5000 → ⊥) → o ≡ unchanged (Refused Disorder) r → Right line switch r table out (after o table out)
   unfolding disorder
   kept_table z h = rw h (kept_1 (rw (ne_eqb (length table) 5000 z)))
 
@@ -151,26 +169,27 @@ module _ (line : List ℕ) (switch : Bool) (r : Record) (table out : List ℤ) w
   kept_early : (a : Answer) → (in_order r ≡ true → Right line switch r table out (leaving a r table out)) → {o : Report} → o ≡ unchanged (judged_as a r) r → Right line switch r table out (after o table out)
   kept_early a h e = rw e (go (in_order r) refl)
     where
-      go : (b : Bool) → in_order r ≡ b → Right line switch r table out (leaving (cond b a (Refused 1)) r table out)
+      go : (b : Bool) → in_order r ≡ b → Right line switch r table out (leaving (cond b a (Refused Disorder)) r table out)
       go true q = h q
       go false q = kept_1 (is_disorder q)
 
-  pub kept_2 : {o : Report} → length table ≡ 5000 → 256 < length line → o ≡ unchanged (judged_as (Refused 2) r) r → Right line switch r table out (after o table out)
+  pub kept_2 : {o : Report} → length table ≡ 5000 → 256 < length line → o ≡ unchanged (judged_as (Refused LongLine) r) r → Right line switch r table out (after o table out)
   unfolding answer_to
-  kept_2 z l h = kept_early (Refused 2) (λ q. by_early (λ e. rw (no_disorder z q, lt-ltb 256 (length line) l))) h
+  kept_2 z l h = kept_early (Refused LongLine) (λ q. by_early (λ e. rw (no_disorder z q, lt-ltb 256 (length line) l))) h
 
   pub kept_skipped : {o : Report} → length table ≡ 5000 → length line ≤ 256 → unread switch line ≡ true → o ≡ unchanged (judged_as Skipped r) r → Right line switch r table out (after o table out)
   unfolding answer_to
   kept_skipped z l s h = kept_early Skipped (λ q. by_early (λ e. rw (no_disorder z q, le-ltb 256 (length line) l, s))) h
 
   -- whatever was read, a record out of order is number 1
-  out_of_order : in_order r ≡ false → (a : Reading) (lent : Spaces) → worked_by a lent r table out ≡ leaving (Refused 1) r table out
+  out_of_order : in_order r ≡ false → (a : Reading) (lent : Spaces) → worked_by a lent r table out ≡ leaving (Refused Disorder) r table out
   unfolding execution
-  out_of_order q (Read w n k) lent = rw q
-  out_of_order q (Stopped k) lent = rw q
-  out_of_order q Deep lent = rw q
-  out_of_order q (Wrong p) lent = rw q
-  out_of_order q TooLong lent = rw q
+  out_of_order q (Ok a) lent = rw q
+  out_of_order q (Err (ReadingRefused why)) lent = rw q
+  out_of_order q (Err ReadingSkipped) lent = rw q
+  out_of_order q (Err Deep) lent = rw q
+  out_of_order q (Err (Wrong p)) lent = rw q
+  out_of_order q (Err TooLong) lent = rw q
 
 module _ (line : List ℕ) (switch : Bool) (r : Record) (table out : List ℤ) (sized : length table ≡ 5000) (in_order_before : in_order r ≡ true) (short : length line ≤ 256) (unskipped : unread switch line ≡ false) where
   ordered : disorder r table ≡ false
@@ -192,7 +211,7 @@ module _ (line : List ℕ) (switch : Bool) (r : Record) (table out : List ℤ) (
       rw (ordered, le-ltb 256 (length line) short, unskipped, d, stop_is c.entries k h) (stopped_by_holds k n (refusals ws b (ready b r) (length out)) 0 c b r table out)
 
   -- a reading that nests too deep
-  deep_answer : (c : Contents Entry) → too_deep c ≡ true → answer_to (derived c) line switch r table out ≡ leaving (Refused 16) r table out
+  deep_answer : (c : Contents Entry) → too_deep c ≡ true → answer_to (derived c) line switch r table out ≡ leaving (Refused TooDeep) r table out
   unfolding answer_to
   deep_answer c d = rw (ordered, le-ltb 256 (length line) short, unskipped, d)
 
@@ -231,7 +250,7 @@ module _ (line : List ℕ) (switch : Bool) (r : Record) (table out : List ℤ) (
             → (b : Bool) → too_deep c ≡ b → (o : Option ℕ) → stop_of c.entries ≡ o → worked (left_for c old) r table out ≡ answer_to (derived c) line switch r table out
         go c l s w n true q o h = rw (q, in_order_before) (sym (deep_answer c q))
         go c l s w n false q none h = rw q (stored_answer c.entries c.work w n h ∙ sym (whole_answer c q l (not_stopped c.entries s h) h))
-        go c l s w n false q (some k) h = rw (q, h, in_order_before) (sym (stopped_answer c q s k h))
+        go c l s w n false q (some k) h = rw (q, h) (stopped_is k r table out in_order_before ∙ sym (stopped_answer c q s k h))
 
     -- the promise, from what the reader left, for a record in order
     kept_in_order : {a : Reading} {lent : Spaces} → Reads line table old a lent → Right line switch r table out (worked_by a lent r table out)
@@ -251,20 +270,15 @@ module _ (line : List ℕ) (switch : Bool) (r : Record) (table out : List ℤ) (
       go false q = rw (out_of_order line switch r table out q a lent) (kept_1 line switch r table out (is_disorder line switch r table out q))
 
   -- read to its end, and worked
-  pub kept_read : {w n k : ℕ} {lent : Spaces} → Reads line table old (Read w n k) lent → {o : Report} {table' out' : List ℤ} →
-      record { outcome = o.outcome; out = out' } ≡ execution (take w lent.letters) (take w lent.values) r out → o.work ≡ work_done o.outcome.answer k → o.place ≡ 0 →
-      table' ≡ table_after o.outcome.answer (settings_of (take n lent.numbers) (take n lent.amounts)) table → Right line switch r table out (after o table' out')
-  kept_read {w} {n} {k} {lent} p {o} {table'} {out'} e m l h =
-      kept p (rw (m, l, h) refl ∙ ap (λ (d : Done). finished k d (settings_of (take n lent.numbers) (take n lent.amounts)) table) e)
+  pub kept_read : {a : Read} {lent : Spaces} → Reads line table old (Ok a) lent → {o : Report} {table' out' : List ℤ} →
+      record { outcome = o.outcome; out = out' } ≡ execution (take a.words lent.letters) (take a.words lent.values) r out → o.work ≡ work_done o.outcome.answer a.work → o.place ≡ 0 →
+      table' ≡ table_after o.outcome.answer (settings_of (take a.settings lent.numbers) (take a.settings lent.amounts)) table → Right line switch r table out (after o table' out')
+  kept_read {a} {lent} p {o} {table'} {out'} e m l h =
+      kept p (rw (m, l, h) refl ∙ ap (λ (d : Done). finished a.work d (settings_of (take a.settings lent.numbers) (take a.settings lent.amounts)) table) e)
 
-  -- not worked, by what was read
-  pub kept_as : {a : Reading} {lent : Spaces} → Reads line table old a lent → (k : Answer) → worked_by a lent r table out ≡ leaving (judged_as k r) r table out → {o : Report} →
-      o ≡ unchanged (judged_as k r) r → Right line switch r table out (after o table out)
-  kept_as p k w h = kept p (ap (λ (o : Report). after o table out) h ∙ sym w)
-
-  -- a wrong form
-  pub kept_wrong : {place : ℕ} {lent : Spaces} → Reads line table old (Wrong place) lent → {o : Report} → o ≡ wrong_at place r → Right line switch r table out (after o table out)
-  kept_wrong p h = kept p (ap (λ (o : Report). after o table out) h)
+  -- not read to its end
+  pub kept_unread : {why : Unread} {lent : Spaces} → Reads line table old (Err why) lent → {o : Report} → o ≡ unworked why r → Right line switch r table out (after o table out)
+  kept_unread p h = kept p (ap (λ (o : Report). after o table out) h)
 
 -- ---- the lent spaces
 module _ (line : List ℕ) (switch : Bool) (table : List ℤ) (old : Spaces) where

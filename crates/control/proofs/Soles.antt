@@ -23,7 +23,7 @@ interpret_in_sole = record {
   one = λ κs a r r' ws ws' p q.
       let e = by_form_sole p.0 q.0 in
       let l = by_form_sole p.1 q.1 in
-      (λ i. record { outcome = (e i).outcome; work = (e i).work; place = (e i).place }, λ i. (tt, (tt, (tt, ((e i).table, ((e i).out, ((l i).letters, ((l i).values, ((l i).numbers, ((l i).amounts, tt))))))))));
+      (λ i. record { outcome = (e i).outcome; work = (e i).work; place = (e i).place }, λ i. (tt, (tt, (tt, ((e i).table, ((e i).out, (l i, tt)))))));
 }
 
 pub step_sole : Sole step.ended (λ M 𝓤. step.clauses)

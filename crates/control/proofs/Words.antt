@@ -9,26 +9,23 @@ use lib.IntN.{ℤ}
 use Rattle.laws.proofs.Bools.{T-eq}
 use Rattle.grammar.specs.Grammar.{Item, word, setting, comment, Stroke, unmarked, plain, conditional, Line, line, letter, ItemsOk, LineOk}
 use Rattle.grammar.specs.Working.{Took, skip, stop, after, value, expression, entries, line_entries}
-use Rattle.rules.specs.Meaning.{parameter_of, Entry, word_of, setting_of, setting_at, runs, condition_of, arithmetic, words}
-use Rattle.rules.specs.declared.Worked.{Worked}
-use Rattle.rules.specs.declared.Worked.TheVariants.{Good, Bad}
-use Rattle.rules.specs.declared.Parameter.{Parameter}
-use Rattle.rules.specs.declared.Parameter.TheVariants.{Number as Numbered, Outside}
+use Rattle.rules.specs.Meaning.{Worked, parameter_of, Entry, word_of, setting_of, setting_at, runs, condition_of, arithmetic, words}
+use Rattle.std.specs.Prelude.{Option, Some, None, Ok, Err}
 use Rattle.summary.specs.Words.{lettered}
 
 -- what an item gives has a word's letter, or is no word
 word_lettered : (b : ℕ) (w : Worked) (t : Took Entry) → T (letter b) → lettered (words t) ≡ words t → lettered (words (after (word_of b w) t)) ≡ words (after (word_of b w) t)
-word_lettered b (Good v) t l h = rw (T-eq (letter b) l, h)
-word_lettered b (Bad n) t l h = refl
+word_lettered b (Ok v) t l h = rw (T-eq (letter b) l, h)
+word_lettered b (Err n) t l h = refl
 
-setting_at_lettered : (p : Parameter) (w : Worked) (t : Took Entry) → lettered (words t) ≡ words t → lettered (words (after (setting_at p w) t)) ≡ words (after (setting_at p w) t)
-setting_at_lettered Outside w t h = refl
-setting_at_lettered (Numbered n) (Good v) t h = h
-setting_at_lettered (Numbered n) (Bad m) t h = refl
+setting_at_lettered : (p : Option ℕ) (w : Worked) (t : Took Entry) → lettered (words t) ≡ words t → lettered (words (after (setting_at p w) t)) ≡ words (after (setting_at p w) t)
+setting_at_lettered None w t h = refl
+setting_at_lettered (Some n) (Ok v) t h = h
+setting_at_lettered (Some n) (Err m) t h = refl
 
 setting_lettered : (a b : Worked) (t : Took Entry) → lettered (words t) ≡ words t → lettered (words (after (setting_of a b) t)) ≡ words (after (setting_of a b) t)
-setting_lettered (Good v) b t h = setting_at_lettered (parameter_of v.0) b t h
-setting_lettered (Bad n) b t h = refl
+setting_lettered (Ok v) b t h = setting_at_lettered (parameter_of v.0) b t h
+setting_lettered (Err n) b t h = refl
 
 module _ (table : List ℤ) where
   entries_lettered : (is : List Item) → ItemsOk is → lettered (words (entries (arithmetic table) is)) ≡ words (entries (arithmetic table) is)
@@ -38,8 +35,8 @@ module _ (table : List ℤ) where
   entries_lettered (comment bs ∷ is) o = entries_lettered is o.1
 
   condition_lettered : (k : Stroke) (w : Worked) (t : Took Entry) → lettered (words t) ≡ words t → lettered (words (after (condition_of k w) t)) ≡ words (after (condition_of k w) t)
-  condition_lettered k (Bad n) t h = refl
-  condition_lettered k (Good v) t h = go (runs k v.0)
+  condition_lettered k (Err n) t h = refl
+  condition_lettered k (Ok v) t h = go (runs k v.0)
     where
       go : (c : Bool) → lettered (words (after (cond c skip (stop 100)) t)) ≡ words (after (cond c skip (stop 100)) t)
       go true = h

@@ -4,11 +4,10 @@
 ghost use Rattle.std.specs.Prelude.{◌≡◌, false, ◌≤◌, length, take, set};
 ghost use Rattle.rules.specs.Promise.{Right, after, apply, unread};
 ghost use Rattle.block.specs.Execution.{execution};
-ghost use Rattle.reader.specs.Reading.{spaces};
-ghost use Rattle.control.specs.Worked.{judged_as, stopped_as, unchanged, wrong_at, Lends, settings_of, table_after, work_done};
+ghost use Rattle.control.specs.Worked.{judged_as, unchanged, wrong_at, unworked, Lends, settings_of, table_after, work_done};
 
-use reader::Reading;
-use rules::{Answer, Outcome, Record, Report, Value};
+use reader::{Read, Spaces, Unread};
+use rules::{Answer, Outcome, Record, Refusal, Report, Value};
 
 // Works one line. Whatever the line, the record, the table and the output space are, what is left
 // is what the rules say.
@@ -21,21 +20,8 @@ pub fn interpret(
 ) -> Report
     ensures { Right line.now switch rec table.old out.old (after result table.new out.new) }
 {
-    let mut letters = [0u8; 128];
-    let mut values = [0i64; 128];
-    let mut numbers = [0usize; 64];
-    let mut amounts = [0i64; 64];
-    interpret_in(
-        line,
-        switch,
-        rec,
-        table,
-        out,
-        &mut letters,
-        &mut values,
-        &mut numbers,
-        &mut amounts,
-    )
+    let mut spaces = Spaces::new();
+    interpret_in(line, switch, rec, table, out, &mut spaces)
 }
 
 // The same with spaces lent for the line's words and settings: whoever works many lines lays them out once.
@@ -45,33 +31,33 @@ pub fn interpret_in(
     rec: Record,
     table: &mut [i64],
     out: &mut [i64],
-    letters: &mut [u8; 128],
-    values: &mut [i64; 128],
-    numbers: &mut [usize; 64],
-    amounts: &mut [i64; 64],
+    spaces: &mut Spaces,
 ) -> Report
-    ensures { Right line.now switch rec table.old out.old (after result table.new out.new) × Lends line.now switch table.old (spaces letters.old values.old numbers.old amounts.old) (spaces letters.new values.new numbers.new amounts.new) }
+    ensures { Right line.now switch rec table.old out.old (after result table.new out.new) × Lends line.now switch table.old spaces.old spaces.new }
 {
     if table.len() != 5000 {
-        return unchanged(Answer::Refused(1), rec);
+        return unchanged(Answer::Refused(Refusal::Disorder), rec);
     }
     if 256 < line.len() {
-        return answered(Answer::Refused(2), rec);
+        return answered(Answer::Refused(Refusal::LongLine), rec);
     }
     if marks::unread(line, switch) {
         return answered(Answer::Skipped, rec);
     }
-    sized(letters, values, numbers, amounts);
-    read_and_work(
-        line, switch, rec, table, out, letters, values, numbers, amounts,
-    )
+    sized(spaces);
+    read_and_work(line, switch, rec, table, out, spaces)
 }
 
 // The lent spaces are as long as their types say. That is known where slices are made of them, and not before.
-fn sized(letters: &[u8; 128], values: &[i64; 128], numbers: &[usize; 64], amounts: &[i64; 64])
-    ensures { (length letters.now ≡ 128) × (length values.now ≡ 128) × (length numbers.now ≡ 64) × (length amounts.now ≡ 64) }
+fn sized(spaces: &Spaces)
+    ensures { (length spaces.now.letters ≡ 128) × (length spaces.now.values ≡ 128) × (length spaces.now.numbers ≡ 64) × (length spaces.now.amounts ≡ 64) }
 {
-    slices(letters, values, numbers, amounts);
+    slices(
+        &spaces.letters,
+        &spaces.values,
+        &spaces.numbers,
+        &spaces.amounts,
+    );
 }
 
 fn slices(_letters: &[u8], _values: &[i64], _numbers: &[usize], _amounts: &[i64]) {}
@@ -81,10 +67,7 @@ fn unchanged(answer: Answer, rec: Record) -> Report
     ensures { result ≡ unchanged answer rec }
 {
     Report {
-        outcome: Outcome {
-            answer: answer,
-            rec: rec,
-        },
+        outcome: Outcome { answer, rec },
         work: 0,
         place: 0,
     }
@@ -98,7 +81,7 @@ fn answered(answer: Answer, rec: Record) -> Report
     if record::in_order(rec) {
         return unchanged(answer, rec);
     }
-    unchanged(Answer::Refused(1), rec)
+    unchanged(Answer::Refused(Refusal::Disorder), rec)
 }
 
 // A line of wrong form: the place at which it breaks is told, unless the record is out of order.
@@ -106,12 +89,12 @@ fn misformed(place: usize, rec: Record) -> Report
     ensures { result ≡ wrong_at place rec }
 {
     if !record::in_order(rec) {
-        return unchanged(Answer::Refused(1), rec);
+        return unchanged(Answer::Refused(Refusal::Disorder), rec);
     }
     Report {
         outcome: Outcome {
-            answer: Answer::Refused(3),
-            rec: rec,
+            answer: Answer::Refused(Refusal::WrongForm),
+            rec,
         },
         work: 0,
         place: place as u64,
@@ -125,56 +108,46 @@ fn read_and_work(
     rec: Record,
     table: &mut [i64],
     out: &mut [i64],
-    letters: &mut [u8; 128],
-    values: &mut [i64; 128],
-    numbers: &mut [usize; 64],
-    amounts: &mut [i64; 64],
+    spaces: &mut Spaces,
 ) -> Report
-    requires { (length table.old ≡ 5000) × (length line.now ≤ 256) × (unread switch line.now ≡ false) × (length letters.old ≡ 128) × (length values.old ≡ 128) × (length numbers.old ≡ 64) × (length amounts.old ≡ 64) }
-    ensures { Right line.now switch rec table.old out.old (after result table.new out.new) × Lends line.now switch table.old (spaces letters.old values.old numbers.old amounts.old) (spaces letters.new values.new numbers.new amounts.new) }
+    requires { (length table.old ≡ 5000) × (length line.now ≤ 256) × (unread switch line.now ≡ false) × (length spaces.old.letters ≡ 128) × (length spaces.old.values ≡ 128) × (length spaces.old.numbers ≡ 64) × (length spaces.old.amounts ≡ 64) }
+    ensures { Right line.now switch rec table.old out.old (after result table.new out.new) × Lends line.now switch table.old spaces.old spaces.new }
 {
-    match reader::read(line, table, letters, values, numbers, amounts) {
-        Reading::Read(words, settings, work) => finish(
-            letters, values, words, numbers, amounts, settings, work, rec, table, out,
-        ),
-        Reading::Stopped(number) => answered(stopped_as(number), rec),
-        Reading::Deep => answered(Answer::Refused(16), rec),
-        Reading::Wrong(place) => misformed(place, rec),
-        Reading::TooLong => answered(Answer::Refused(2), rec),
+    match reader::read(line, table, spaces) {
+        Ok(read) => finish(spaces, read, rec, table, out),
+        Err(why) => unworked(why, rec),
     }
 }
 
-// What the number that stopped the reading answers. 100 is a condition's no, and skips the line.
-fn stopped_as(number: u8) -> Answer
-    ensures { result ≡ stopped_as number }
+// What answers a line that is not read to its end. A condition that says no skips it.
+fn unworked(why: Unread, rec: Record) -> Report
+    ensures { result ≡ unworked why rec }
 {
-    if number == 100 {
-        return Answer::Skipped;
+    match why {
+        Unread::Refused(refusal) => answered(Answer::Refused(refusal), rec),
+        Unread::Skipped => answered(Answer::Skipped, rec),
+        Unread::Deep => answered(Answer::Refused(Refusal::TooDeep), rec),
+        Unread::Wrong(place) => misformed(place, rec),
+        Unread::TooLong => answered(Answer::Refused(Refusal::LongLine), rec),
     }
-    Answer::Refused(number)
 }
 
 // A line that is read: its words are worked, and where it is accepted its settings are applied.
-fn finish(
-    letters: &[u8; 128],
-    values: &[i64; 128],
-    words: usize,
-    numbers: &[usize; 64],
-    amounts: &[i64; 64],
-    settings: usize,
-    work: u64,
-    rec: Record,
-    table: &mut [i64],
-    out: &mut [i64],
-) -> Report
-    ensures { (record { outcome = result.outcome; out = out.new } ≡ execution (take words letters.now) (take words values.now) rec out.old) × (result.work ≡ work_done result.outcome.answer work) × (result.place ≡ 0) × (table.new ≡ table_after result.outcome.answer (settings_of (take settings numbers.now) (take settings amounts.now)) table.old) }
+fn finish(spaces: &Spaces, read: Read, rec: Record, table: &mut [i64], out: &mut [i64]) -> Report
+    ensures { (record { outcome = result.outcome; out = out.new } ≡ execution (take read.words spaces.now.letters) (take read.words spaces.now.values) rec out.old) × (result.work ≡ work_done result.outcome.answer read.work) × (result.place ≡ 0) × (table.new ≡ table_after result.outcome.answer (settings_of (take read.settings spaces.now.numbers) (take read.settings spaces.now.amounts)) table.old) }
 {
-    let outcome = block::execute(letters, values, words, rec, out);
+    let outcome = block::execute(&spaces.letters, &spaces.values, read.words, rec, out);
     let answer = outcome.answer;
-    set_entries(answer, numbers, amounts, settings, table);
+    set_entries(
+        answer,
+        &spaces.numbers,
+        &spaces.amounts,
+        read.settings,
+        table,
+    );
     Report {
         outcome,
-        work: work_done(answer, work),
+        work: work_done(answer, read.work),
         place: 0,
     }
 }
@@ -204,8 +177,7 @@ fn set_entries(answer: Answer, numbers: &[usize], amounts: &[i64], count: usize,
 fn set_all(numbers: &[usize], amounts: &[i64], count: usize, table: &mut [i64])
     ensures { table.new ≡ apply (settings_of (take count numbers.now) (take count amounts.now)) table.old }
 {
-    let mut i = 0;
-    while i < count {
+    for i in 0..count {
         if numbers.len() <= i {
             return;
         }
@@ -213,7 +185,6 @@ fn set_all(numbers: &[usize], amounts: &[i64], count: usize, table: &mut [i64])
             return;
         }
         set_entry(numbers[i], Value(amounts[i]), table);
-        i += 1;
     }
 }
 

@@ -1,22 +1,19 @@
 -- What it tells that numbers are a record's: how many they are, and that each stays itself through the field that holds it.
 -- Assumes nothing.
-use mathlib.Core.Path.{◌≡◌, refl, ap, sym, subst, ◌∙◌}
+use mathlib.Core.Path.{◌≡◌, refl, sym, subst, ◌∙◌}
 use mathlib.Core.Bool.{Bool, true, false, not, ◌&&◌, true≢false, false≢true}
 use mathlib.Core.List.{List, [], ◌∷◌}
 use Prim.Native.Nat.{ℕ, zero, suc, ◌+◌, ◌<◌, ◌^◌}
-use native.Mathlib.Numerals.{add-one}
 use native.Mathlib.Omega.{arith}
 use lib.Dec.{T, eqb, eqb→eq, leb-zero}
 use lib.IntN.{ℤ, pos, negsuc, nat_abs}
 use lib.ListN.{length, drop}
-use lib.Seq.{drop-cons, get_or-drop, get_or-take}
-use lib.Signed.{mag, lt_z, le_z, non_neg}
-use mir.Syntax.{Width, w64}
-use mir.Val.{Fits, bits, hbits, to_z, of_z}
-use borrow.Author.Rules.{sfits_of}
+use lib.Seq.{get_or-drop, get_or-take}
+use lib.Signed.{lt_z, le_z, non_neg}
+use mir.Syntax.{Width}
+use mir.Val.{Fits, bits}
 use borrow.Author.Tests.{ltb-true, leb-true, not-true, not-false}
 use Rattle.laws.proofs.Bools.{and_left, and_right, T-eq}
-use Rattle.laws.proofs.Ints.{back}
 use Rattle.rules.specs.Reach.{up_to}
 use Rattle.embed.specs.Packing.{number_at, numbers_at, all_up_to, holdable}
 
@@ -39,10 +36,6 @@ pub cast_held : (w : Width) (high : ℕ) (z : ℤ) → high < 2 ^ bits w → up_
 cast_held w high (pos n) h e = (tt, record { fits = omega (arith, leb-true n high e) })
 cast_held w high (negsuc n) h e = absurd (false≢true e)
 
--- a test of a number that a function is handed by its bits
-pub read_up_to : {held : Bool} (high : ℕ) (z : ℤ) → mag z < 2 ^ hbits w64 → held ≡ up_to high (to_z w64 (of_z w64 z)) → held ≡ up_to high z
-read_up_to high z f e = e ∙ ap (up_to high) (back z (sfits_of f))
-
 -- a call's answer, and the test of it that the code makes, tell what the answer stands for
 pub passed : {answer asked : Bool} → answer ≡ asked → not answer ≡ false → asked ≡ true
 passed {answer} e t = sym e ∙ not-false answer t
@@ -50,16 +43,7 @@ passed {answer} e t = sym e ∙ not-false answer t
 pub failed : {answer asked : Bool} → answer ≡ asked → not answer ≡ true → asked ≡ false
 failed {answer} e t = sym e ∙ not-true answer t
 
--- ---- a run of such numbers: a turn of the loop over it, and each of its numbers
-module _ (high : ℕ) (zs : List ℤ) (i : ℕ) (h : i < length zs) where
-  pub held_next : up_to high (number_at zs i) ≡ true → all_up_to high (drop i zs) ≡ all_up_to high (drop (i + 1) zs)
-  unfolding all_up_to
-  held_next e = rw (drop-cons zs i (pos 0) h, e, add-one i) refl
-
-  pub held_not : up_to high (number_at zs i) ≡ false → all_up_to high (drop i zs) ≡ false
-  unfolding all_up_to
-  held_not e = rw (drop-cons zs i (pos 0) h, e) refl
-
+-- ---- a run of such numbers
 pub each : (high : ℕ) (zs : List ℤ) → T (all_up_to high zs) → (i : ℕ) → T (up_to high (number_at zs i))
 unfolding all_up_to
 each high [] t i = subst T (sym (leb-zero high)) tt

@@ -15,7 +15,7 @@ use Rattle.rules.specs.declared.Length.{Length}
 use Rattle.rules.specs.declared.Record.{Record}
 use Rattle.embed.specs.Packing.{packed, unpacked, holdable, number_at, numbers_at}
 use Rattle.embed.proofs.Held.{same, long, mode, small}
-use Rattle.embed.proofs.Runs.{modes, quantities}
+use Rattle.embed.specs.Packing.{modes, quantities}
 
 same_numbers : (zs : List ℤ) → numbers (map counts zs) ≡ zs
 same_numbers [] = refl

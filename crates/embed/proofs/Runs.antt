@@ -13,7 +13,7 @@ use Rattle.rules.specs.Reach.{counts, nowhere}
 use Rattle.rules.specs.Commands.{numbers}
 use Rattle.rules.specs.declared.Length.{Length}
 use Rattle.rules.specs.declared.Record.{Record}
-use Rattle.embed.specs.Packing.{packed, number_at, numbers_at, lengths_at}
+use Rattle.embed.specs.Packing.{modes, quantities, packed, number_at, numbers_at, lengths_at}
 
 pub map-append : {A B : Type 0} (f : A → B) (a b : List A) → map f (a ++ b) ≡ map f a ++ map f b
 map-append f [] b = refl
@@ -91,13 +91,6 @@ five_runs l a b c d e hl ha hb hc hd he =
     let all : length l ≡ length (a ++ b ++ c ++ d ++ e) = omega (arith, length-append (a ++ b ++ c ++ d) e) in
     rw (after_run l a b ha, after_run l (a ++ b) c ab, after_run l (a ++ b ++ c) d abc, after_run l (a ++ b ++ c ++ d) e abcd, whole_run l (a ++ b ++ c ++ d ++ e) all)
     (simp append_assoc)
-
--- the last two runs of a record
-abbrev pub modes : Record → List ℤ
-modes r = pos r.motion ∷ pos r.plane ∷ pos r.distance ∷ pos r.units ∷ pos r.system ∷ []
-
-abbrev pub quantities : Record → List ℤ
-quantities r = r.feed.0 ∷ r.speed.0 ∷ pos r.tool ∷ pos r.spindle ∷ pos r.coolant ∷ []
 
 -- all five, put one after the other
 pub all_runs : (r : Record) (l : List ℤ) → length l ≡ 43 → length r.position ≡ 3 → length r.origins ≡ 27 → length r.offset ≡ 3

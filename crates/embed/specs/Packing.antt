@@ -1,6 +1,7 @@
 -- The record as plain numbers, as a control's firmware holds it, and the promise read through that packing.
 -- Assumes nothing.
 use Rattle.std.specs.Prelude.{◌≡◌, Bool, true, false, ◌&&◌, List, [], ◌∷◌, ◌++◌, map, ℕ, eqb, length, take, drop, get_or, ℤ, pos, nat_abs}
+use Rattle.std.specs.List.{list_all}
 use Rattle.rules.specs.Reach.{counts, up_to}
 use Rattle.rules.specs.Commands.{numbers}
 use Rattle.rules.specs.Promise.{After, Right, number_of, count_of}
@@ -8,6 +9,13 @@ use Rattle.rules.specs.declared.Length.{Length}
 use Rattle.rules.specs.declared.Record.{Record}
 use Rattle.rules.specs.declared.Answer.{Answer}
 use Rattle.embed.specs.declared.Rs274Answer.{Rs274Answer}
+
+-- the modes, and what stands behind them
+abbrev pub modes : Record → List ℤ
+modes r = pos r.motion ∷ pos r.plane ∷ pos r.distance ∷ pos r.units ∷ pos r.system ∷ []
+
+abbrev pub quantities : Record → List ℤ
+quantities r = r.feed.0 ∷ r.speed.0 ∷ pos r.tool ∷ pos r.spindle ∷ pos r.coolant ∷ []
 
 -- 43 numbers: 0–2 position, 3–29 origins by system then axis, 30–32 offset, 33 motion, 34 plane, 35 distance, 36 units, 37 system,
 -- 38 feed, 39 speed, 40 tool, 41 spindle, 42 coolant
@@ -49,8 +57,7 @@ unpacked zs = record {
 
 -- every one of them is from 0 to high
 unfoldable pub all_up_to : ℕ → List ℤ → Bool
-all_up_to high [] = true
-all_up_to high (z ∷ zs) = up_to high z && all_up_to high zs
+all_up_to high zs = list_all (up_to high) zs
 
 -- they are 43, and each is one that its field can hold: modes from 0 to 65,535, tool, spindle and coolant from 0 to 255
 unfoldable pub holdable : List ℤ → Bool

@@ -1,8 +1,10 @@
 // Parameter files in and out, on plain numbers.
 ghost use Rattle.std.specs.Prelude.{◌≡◌};
+ghost use Rattle.parameters.specs.Refusal.{refusal_number};
 ghost use Rattle.embed.specs.Files.{LoadedPlain, saved_plain};
 
 use super::{holdable, pack, unpack};
+use parameters::FileRefusal;
 
 // The refusal, 0 where the file is written, and how many bytes it has.
 #[repr(C)]
@@ -12,6 +14,16 @@ pub struct Rs274File {
     pub count: u64,
 }
 
+// Why a file is not written. It has no bytes then.
+fn unwritten(why: FileRefusal) -> Rs274File
+    ensures { result ≡ record { number = refusal_number why; count = 0 } }
+{
+    Rs274File {
+        number: u32::from(why.number()),
+        count: 0,
+    }
+}
+
 // Reads a parameter file into the record and the table, and answers with the refusal, 0 for an accepted file. One
 // that is refused changes neither.
 #[unsafe(no_mangle)]
@@ -19,13 +31,15 @@ pub extern "C" fn rs274_parameters_read(text: &[u8], rec: &mut [i64], table: &mu
     ensures { LoadedPlain text.now rec.old table.old (record { number = result; rec = rec.new; table = table.new }) }
 {
     if !holdable(rec) {
-        return 1;
+        return u32::from(FileRefusal::Disorder.number());
     }
-    let loaded = parameters::read(text, unpack(rec), table);
-    let left = loaded.rec;
-    let number = loaded.number;
-    pack(left, rec);
-    number as u32
+    match parameters::read(text, unpack(rec), table) {
+        Ok(left) => {
+            pack(&left, rec);
+            0
+        }
+        Err(why) => u32::from(why.number()),
+    }
 }
 
 // Writes the parameter file of a record and a table at the beginning of the output space, and nothing where it is
@@ -35,14 +49,13 @@ pub extern "C" fn rs274_parameters_write(rec: &[i64], table: &[i64], out: &mut [
     ensures { record { number = result.number; count = result.count; out = out.new } ≡ saved_plain rec.now table.now out.old }
 {
     if !holdable(rec) {
-        return Rs274File {
-            number: 1,
-            count: 0,
-        };
+        return unwritten(FileRefusal::Disorder);
     }
-    let written = parameters::write(unpack(rec), table, out);
-    Rs274File {
-        number: written.number as u32,
-        count: written.count as u64,
+    match parameters::write(unpack(rec), table, out) {
+        Ok(count) => Rs274File {
+            number: 0,
+            count: count as u64,
+        },
+        Err(why) => unwritten(why),
     }
 }

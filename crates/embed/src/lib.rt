@@ -1,11 +1,11 @@
 // What a control's firmware links: one line of a program, on plain numbers.
 #![tactic(auto)]
 
-ghost use Rattle.std.specs.Prelude.{◌≡◌, true, [], ◌∷◌, ◌+◌, ◌≤◌, ◌<◌, pos, nat_abs, length, set};
+ghost use Rattle.std.specs.Prelude.{◌≡◌, true, ◌+◌, ◌≤◌, ◌<◌, nat_abs, length};
 ghost use Rattle.std.proofs.lemmas.List.Edits.{sets};
-ghost use Rattle.rules.specs.Reach.{counts, up_to};
+ghost use Rattle.rules.specs.Reach.{up_to};
 ghost use Rattle.rules.specs.Commands.{numbers};
-ghost use Rattle.embed.specs.Packing.{packed, number_at, lengths_at, unpacked, all_up_to, holdable, answered, Embedded};
+ghost use Rattle.embed.specs.Packing.{modes, quantities, packed, number_at, lengths_at, unpacked, all_up_to, holdable, answered, Embedded};
 
 mod files;
 
@@ -50,7 +50,7 @@ pub extern "C" fn rs274_line(
     let answer = outcome.answer;
     let place = report.place;
     let work = report.work;
-    pack(left, rec);
+    pack(&left, rec);
     answered(answer, place, work)
 }
 
@@ -65,8 +65,8 @@ fn answered(answer: Answer, place: u64, work: u64) -> Rs274Answer
             place,
             work,
         },
-        Answer::Refused(number) => Rs274Answer {
-            number: number as u32,
+        Answer::Refused(why) => Rs274Answer {
+            number: u32::from(why.number()),
             count: 0,
             place,
             work,
@@ -94,15 +94,11 @@ fn holdable(rec: &[i64]) -> bool
 }
 
 // Whether every number is from 0 to high.
+#[tactic(auto, unfolding(crate::specs::Packing::all_up_to))]
 fn all_up_to(high: u16, all: &[i64]) -> bool
     ensures { result ≡ all_up_to high all.now }
 {
-    for i in 0..all.len() {
-        if !up_to(high, all[i]) {
-            return false;
-        }
-    }
-    true
+    all.iter().all(|number| up_to(high, *number))
 }
 
 // Whether a number is from 0 to high.
@@ -115,69 +111,43 @@ fn up_to(high: u16, number: i64) -> bool
     number <= high as i64
 }
 
-// The record that the numbers stand for.
+// The record that the numbers stand for. (No `From`: record and numbers are other crates' types. No `TryFrom` either, of
+// a type of this crate: the stack that the header promises for a line has no room for one record more.)
 fn unpack(rec: &[i64]) -> Record
     requires { holdable rec.now ≡ true }
     ensures { result ≡ unpacked rec.now }
 {
     Record {
-        position: place_at(rec, 0),
-        origins: origins_at(rec, 3),
-        offset: place_at(rec, 30),
+        position: lengths_at(rec, 0),
+        origins: lengths_at(rec, 3),
+        offset: lengths_at(rec, 30),
         motion: mode_at(rec, 33),
         plane: mode_at(rec, 34),
         distance: mode_at(rec, 35),
         units: mode_at(rec, 36),
         system: mode_at(rec, 37),
-        feed: length_at(rec, 38),
-        speed: speed_at(rec, 39),
+        feed: Length(rec[38]),
+        speed: Value(rec[39]),
         tool: small_at(rec, 40),
         spindle: small_at(rec, 41),
         coolant: small_at(rec, 42),
     }
 }
 
-// The lengths of three axes, from a place on.
-fn place_at(rec: &[i64], at: usize) -> [Length; 3]
-    requires { at + 3 ≤ length rec.now }
-    ensures { result ≡ lengths_at rec.now at 3 }
+// The lengths from a place on.
+fn lengths_at<const N: usize>(rec: &[i64], at: usize) -> [Length; N]
+    requires { at + N ≤ length rec.now }
+    ensures { result ≡ lengths_at rec.now at N }
 {
-    let mut place = [Length(0); 3];
-    for axis in 0..3 {
-        place[axis] = length_at(rec, at + axis);
+    let mut lengths = [Length(0); N];
+    for (i, amount) in lengths.iter_mut().enumerate() {
+        *amount = Length(rec[at + i]);
     }
-    place
+    lengths
 }
 
-// The lengths of nine origins, from a place on.
-fn origins_at(rec: &[i64], at: usize) -> [Length; 27]
-    requires { at + 27 ≤ length rec.now }
-    ensures { result ≡ lengths_at rec.now at 27 }
-{
-    let mut origins = [Length(0); 27];
-    for i in 0..27 {
-        origins[i] = length_at(rec, at + i);
-    }
-    origins
-}
-
-// The number at a place, as a length.
-fn length_at(rec: &[i64], at: usize) -> Length
-    requires { at < length rec.now }
-    ensures { result ≡ counts (number_at rec.now at) }
-{
-    Length(rec[at])
-}
-
-// The number at a place, as a speed.
-fn speed_at(rec: &[i64], at: usize) -> Value
-    requires { at < length rec.now }
-    ensures { result ≡ record { 0 = number_at rec.now at } }
-{
-    Value(rec[at])
-}
-
-// The number at a place, as a mode. The test of the numbers has shown that the cast keeps it.
+// The number at a place, as a mode. The test of the numbers has shown that the cast keeps it. (One function for this and
+// the next would have to be told the width that each cast is named by here.)
 fn mode_at(rec: &[i64], at: usize) -> u16
     requires { (at < length rec.now) × (up_to 65535 (number_at rec.now at) ≡ true) }
     ensures { result ≡ nat_abs (number_at rec.now at) }
@@ -194,72 +164,48 @@ fn small_at(rec: &[i64], at: usize) -> u8
 }
 
 // Puts the record as numbers.
-fn pack(r: Record, rec: &mut [i64])
+fn pack(r: &Record, rec: &mut [i64])
     requires { length rec.old ≡ 43 }
-    ensures { rec.new ≡ packed r }
+    ensures { rec.new ≡ packed r.now }
 {
-    let position = r.position;
-    let origins = r.origins;
-    let offset = r.offset;
-    put_place(position, rec, 0);
-    put_origins(origins, rec, 3);
-    put_place(offset, rec, 30);
-    put_modes(r.motion, r.plane, r.distance, r.units, r.system, rec);
-    put_quantities(r.feed, r.speed, r.tool, r.spindle, r.coolant, rec);
+    put_lengths(&r.position, rec, 0);
+    put_lengths(&r.origins, rec, 3);
+    put_lengths(&r.offset, rec, 30);
+    put_modes(r, rec);
+    put_quantities(r, rec);
 }
 
-// Puts the lengths of three axes, from a place on. (That the array has three is told here, where it
-// is read, since the record says nothing of it.)
-fn put_place(place: [Length; 3], rec: &mut [i64], at: usize)
-    requires { at + 3 ≤ length rec.old }
-    ensures { (length place ≡ 3) × (rec.new ≡ sets rec.old at (numbers place)) }
+// Puts lengths as numbers, from a place on. (That the array has so many is told here, where it is read, since the record
+// says nothing of it.)
+fn put_lengths<const N: usize>(lengths: &[Length; N], rec: &mut [i64], at: usize)
+    requires { at + N ≤ length rec.old }
+    ensures { (length lengths.now ≡ N) × (rec.new ≡ sets rec.old at (numbers lengths.now)) }
 {
-    for axis in 0..3 {
-        put_length(place[axis], rec, at + axis);
+    for (i, amount) in lengths.iter().enumerate() {
+        rec[at + i] = amount.0;
     }
-}
-
-// Puts the lengths of nine origins, from a place on.
-fn put_origins(origins: [Length; 27], rec: &mut [i64], at: usize)
-    requires { at + 27 ≤ length rec.old }
-    ensures { (length origins ≡ 27) × (rec.new ≡ sets rec.old at (numbers origins)) }
-{
-    for i in 0..27 {
-        put_length(origins[i], rec, at + i);
-    }
-}
-
-// Puts a length as a number.
-fn put_length(amount: Length, rec: &mut [i64], at: usize)
-    requires { at < length rec.old }
-    ensures { rec.new ≡ set rec.old at amount.0 }
-{
-    let number = amount.0;
-    rec[at] = number;
 }
 
 // Puts the modes, ten times the code each.
-fn put_modes(motion: u16, plane: u16, distance: u16, units: u16, system: u16, rec: &mut [i64])
+fn put_modes(r: &Record, rec: &mut [i64])
     requires { length rec.old ≡ 43 }
-    ensures { rec.new ≡ sets rec.old 33 (pos motion ∷ pos plane ∷ pos distance ∷ pos units ∷ pos system ∷ []) }
+    ensures { rec.new ≡ sets rec.old 33 (modes r.now) }
 {
-    rec[33] = motion as i64;
-    rec[34] = plane as i64;
-    rec[35] = distance as i64;
-    rec[36] = units as i64;
-    rec[37] = system as i64;
+    rec[33] = r.motion as i64;
+    rec[34] = r.plane as i64;
+    rec[35] = r.distance as i64;
+    rec[36] = r.units as i64;
+    rec[37] = r.system as i64;
 }
 
 // Puts feed, speed, tool, spindle and coolant.
-fn put_quantities(feed: Length, speed: Value, tool: u8, spindle: u8, coolant: u8, rec: &mut [i64])
+fn put_quantities(r: &Record, rec: &mut [i64])
     requires { length rec.old ≡ 43 }
-    ensures { rec.new ≡ sets rec.old 38 (feed.0 ∷ speed.0 ∷ pos tool ∷ pos spindle ∷ pos coolant ∷ []) }
+    ensures { rec.new ≡ sets rec.old 38 (quantities r.now) }
 {
-    let counts = feed.0;
-    let turns = speed.0;
-    rec[38] = counts;
-    rec[39] = turns;
-    rec[40] = tool as i64;
-    rec[41] = spindle as i64;
-    rec[42] = coolant as i64;
+    rec[38] = r.feed.0;
+    rec[39] = r.speed.0;
+    rec[40] = r.tool as i64;
+    rec[41] = r.spindle as i64;
+    rec[42] = r.coolant as i64;
 }

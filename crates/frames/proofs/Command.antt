@@ -3,19 +3,19 @@
 use mathlib.Core.Path.{◌≡◌, refl, ap, sym, subst, ◌∙◌}
 use mathlib.Core.Bool.{Bool, true, false, cond}
 use mathlib.Core.List.{List, ◌++◌, append_assoc, append-nil}
-use mathlib.Core.Option.{Option, none, some}
 use Prim.Native.Nat.{ℕ, zero, suc, ◌+◌, ◌-◌, ◌*◌, ◌≤◌, ◌<◌}
 use native.Mathlib.Omega.{arith}
 use borrow.Author.Tests.{le-leb, lt-leb, leb-true}
 use lib.IntN.{ℤ, pos}
 use lib.ListN.{length, length-append, length-drop, take, drop, get_or}
 use lib.Seq.{sets, sets-eq, drop-drop, get_or-drop, length-take-le}
+use Rattle.std.specs.Prelude.{Option, None, Some}
 use Rattle.grammar.specs.Bytes.{bytes}
 use Rattle.rules.specs.Frames.{hex, complement, fields, fields_used, kind_of, frame, frames_in, refusal_frame}
 use Rattle.frames.specs.Text.{frames_at, answer_frames, room, placed, laid}
+use Rattle.rules.specs.Named.{refusal_number}
+use Rattle.rules.specs.declared.Refusal.{Refusal}
 use Rattle.rules.specs.declared.Answer.TheVariants.{Accepted, Refused, Skipped}
-use Rattle.frames.specs.declared.Put.{Put}
-use Rattle.frames.specs.declared.Put.TheVariants.{At, Full}
 use Rattle.frames.proofs.Stores.{sets_append}
 use Rattle.frames.proofs.Digits.{length_fields}
 
@@ -81,11 +81,11 @@ frames_grow k many zs h =
 
 -- ---- what is put into a text
 module _ (many : ℕ) (out : List ℤ) where
-  pub commands_there : 8 * many ≤ length out → frames_at many out ≡ some (frames_in many out)
+  pub commands_there : 8 * many ≤ length out → frames_at many out ≡ Some (frames_in many out)
   unfolding frames_at
   commands_there h = rw (le-leb (8 * many) (length out) h)
 
-  pub commands_short : length out < 8 * many → frames_at many out ≡ none
+  pub commands_short : length out < 8 * many → frames_at many out ≡ None
   unfolding frames_at
   commands_short h = rw (lt-leb (8 * many) (length out) h)
 
@@ -95,41 +95,41 @@ module _ (out : List ℤ) where
   unfolding frames_at answer_frames
   for_accepted n = rw (append-nil (frames_in n out))
 
-  pub for_refused : (n : ℕ) → some (refusal_frame n) ≡ answer_frames (Refused n) out
+  pub for_refused : (why : Refusal) → Some (refusal_frame (refusal_number why)) ≡ answer_frames (Refused why) out
   unfolding answer_frames
-  for_refused n = rw (le-leb 0 (length out) (omega arith))
+  for_refused why = rw (le-leb 0 (length out) (omega arith))
 
   pub for_skipped : frames_at 0 out ≡ answer_frames Skipped out
   unfolding frames_at answer_frames
   for_skipped = refl
 
 -- the same frames are put alike
-pub put_alike : {o o' : Option (List ℕ)} {r : Put} {t : List ℕ} (text : List ℕ) (at : ℕ) → o ≡ o'
+pub put_alike : {o o' : Option (List ℕ)} {r : Option ℕ} {t : List ℕ} (text : List ℕ) (at : ℕ) → o ≡ o'
     → (r ≡ placed o text at) × (t ≡ laid o text at) → (r ≡ placed o' text at) × (t ≡ laid o' text at)
 put_alike {r = r} {t = t} text at e p = subst (λ (x : Option (List ℕ)). (r ≡ placed x text at) × (t ≡ laid x text at)) e p
 
 -- nothing, where there is no frame or no room for it
 module _ (text : List ℕ) (at : ℕ) where
-  pub no_frame : {o : Option (List ℕ)} → o ≡ none → (Full ≡ placed o text at) × (text ≡ laid o text at)
+  pub no_frame : {o : Option (List ℕ)} → o ≡ None → (None ≡ placed o text at) × (text ≡ laid o text at)
   unfolding placed laid
   no_frame e = rw e (refl, refl)
 
-  module _ {o : Option (List ℕ)} (f : List ℕ) (e : o ≡ some f) where
-    pub no_room : length text < at + length f → (Full ≡ placed o text at) × (text ≡ laid o text at)
+  module _ {o : Option (List ℕ)} (f : List ℕ) (e : o ≡ Some f) where
+    pub no_room : length text < at + length f → (None ≡ placed o text at) × (text ≡ laid o text at)
     unfolding placed laid
     no_room h = rw (e, lt-leb (at + length f) (length text) h) (refl, refl)
 
     pub has_room : {t : List ℕ} {p : ℕ} → at + length f ≤ length text → p ≡ at + length f → t ≡ sets text at f
-        → (At p ≡ placed o text at) × (t ≡ laid o text at)
+        → (Some p ≡ placed o text at) × (t ≡ laid o text at)
     unfolding placed laid
-    has_room h hp ht = rw (e, le-leb (at + length f) (length text) h) (ap At hp, ht ∙ sets-eq f text at h)
+    has_room h hp ht = rw (e, le-leb (at + length f) (length text) h) (ap Some hp, ht ∙ sets-eq f text at h)
 
 -- the place after a frame lies in the text
-pub placed_within : (o : Option (List ℕ)) (text : List ℕ) (at next : ℕ) → placed o text at ≡ At next → next ≤ length text
+pub placed_within : (o : Option (List ℕ)) (text : List ℕ) (at next : ℕ) → placed o text at ≡ Some next → next ≤ length text
 unfolding placed
-placed_within none text at next e = let z : ◌≡◌ {A = ℕ} 0 1 = cc in absurd (omega arith)
-placed_within (some f) text at next e = by (room f text at) refl e
+placed_within None text at next e = let z : ◌≡◌ {A = ℕ} 0 1 = cc in absurd (omega arith)
+placed_within (Some f) text at next e = by (room f text at) refl e
   where
-    by : (t : Bool) → room f text at ≡ t → cond t (At (at + length f)) Full ≡ At next → next ≤ length text
+    by : (t : Bool) → room f text at ≡ t → cond t (Some (at + length f)) None ≡ Some next → next ≤ length text
     by true h g = let n : next ≡ at + length f = cc in omega (arith, leb-true (at + length f) (length text) h)
     by false h g = let z : ◌≡◌ {A = ℕ} 0 1 = cc in absurd (omega arith)

@@ -15,11 +15,14 @@ use Rattle.rules.specs.Meaning.{Entry, words}
 use Rattle.rules.specs.Block.{block_of, dwells, moves}
 use Rattle.rules.specs.Steps.{ready, motion_of, target}
 use Rattle.rules.specs.Arcs.{arc_move, centre}
-use Rattle.rules.specs.Commands.{padded, command, eight, only, numbers, move_command, commands, written}
+use Rattle.rules.specs.Commands.{padded, command, eight, only, numbers, move_command, commands, written, of_word}
 use Rattle.rules.specs.Refusals.{first}
 use Rattle.grammar.specs.Derivation.{Form}
 use Rattle.rules.specs.Promise.{After, answer_to, accepted, misformed, place_in, by_number, count_of, leaving, over, numbers as numbersFor, taken, underived}
 use Rattle.rules.specs.Frames.{hex, complement, fields, fields_used, kind_of, frame, frames_in, onward}
+use Rattle.std.specs.Prelude.{Option, Some, None}
+use Rattle.rules.specs.Named.{refusal_of}
+use Rattle.rules.specs.declared.Refusal.{Refusal}
 use Rattle.rules.specs.declared.Answer.TheVariants.{Accepted, Refused, Skipped}
 use Rattle.rules.specs.declared.Block.{Block}
 use Rattle.rules.specs.declared.Command.{Command}
@@ -51,6 +54,10 @@ one : (t : Bool) (c : Command) → length c.fields ≡ 7 → Few 1 (only t c)
 one true c h = record { eights = omega (arith, length-append (eight c) [], h); few = omega arith }
 one false c h = record { eights = refl; few = omega arith }
 
+one_of : {A : Type 0} (c : A → Command) → ((a : A) → length (c a).fields ≡ 7) → (w : Option A) → Few 1 (of_word c w)
+one_of c h (Some a) = record { eights = omega (arith, length-append (eight (c a)) [], h a); few = omega arith }
+one_of c h None = record { eights = refl; few = omega arith }
+
 move_whole : (b : Block) (r : Record) → length (move_command b r).fields ≡ 7
 move_whole b r =
     by (arc_move b r) 10 (cond (eqb (motion_of b r) 0) 8 9) (pos (motion_of b r / 10) ∷ pos (r.plane / 10) ∷ numbers (target b r) ++ numbers (centre b r)) (numbers (target b r))
@@ -63,15 +70,15 @@ line_few : (b : Block) (r : Record) → Few 9 (commands b r)
 unfolding commands
 line_few b r =
     both _ _ (both _ _ (both _ _ (both _ _ (both _ _ (both _ _ (both _ _ (both _ _
-    (one b.f.given _ refl)
-    (one b.s.given _ refl))
-    (one b.t.given _ refl))
-    (one b.change.given _ refl))
-    (one b.spindle.given _ refl))
-    (one b.coolant.given _ refl))
+    (one_of _ (λ _. refl) b.f)
+    (one_of _ (λ _. refl) b.s))
+    (one_of _ (λ _. refl) b.t))
+    (one_of _ (λ _. refl) b.change))
+    (one_of _ (λ _. refl) b.spindle))
+    (one_of _ (λ _. refl) b.coolant))
     (one (dwells b) _ refl))
     (one (moves b) (move_command b r) (move_whole b r)))
-    (one b.stop.given _ refl)
+    (one_of _ (λ _. refl) b.stop)
 
 -- ---- frames are read from the numbers that were written
 pub at_most_seven : (k : ℕ) → fields_used k ≤ 7
@@ -126,8 +133,8 @@ module _ (e : Contents Entry) (b : Block) (r : Record) (table out out' : List �
         few = few.few;
       }
 
-  refused_alike : (n : ℕ) → Alike (length out) (leaving (Refused n) r table out) (leaving (Refused n) r table out')
-  refused_alike n = record { outcome = refl; table = refl; frames = λ rest. refl; roomy = refl; few = omega arith }
+  refused_alike : (why : Refusal) → Alike (length out) (leaving (Refused why) r table out) (leaving (Refused why) r table out')
+  refused_alike why = record { outcome = refl; table = refl; frames = λ rest. refl; roomy = refl; few = omega arith }
 
   skipped_alike : Alike (length out) (leaving Skipped r table out) (leaving Skipped r table out')
   skipped_alike = record { outcome = refl; table = refl; frames = λ rest. refl; roomy = refl; few = omega arith }
@@ -138,12 +145,12 @@ module _ (e : Contents Entry) (b : Block) (r : Record) (table out out' : List �
   number_alike : (n place : ℕ) → Alike (length out) (by_number n place e b r table out) (by_number n place e b r table out')
   number_alike n place = by (eqb n 0) (eqb n 3) (eqb n 100)
     where
-      by : (x z y : Bool) → Alike (length out) (cond x (accepted e b r table out) (cond z (misformed place r table out) (leaving (cond x (Accepted 0) (cond y Skipped (Refused n))) r table out)))
-          (cond x (accepted e b r table out') (cond z (misformed place r table out') (leaving (cond x (Accepted 0) (cond y Skipped (Refused n))) r table out')))
+      by : (x z y : Bool) → Alike (length out) (cond x (accepted e b r table out) (cond z (misformed place r table out) (leaving (cond x (Accepted 0) (cond y Skipped (Refused (refusal_of n)))) r table out)))
+          (cond x (accepted e b r table out') (cond z (misformed place r table out') (leaving (cond x (Accepted 0) (cond y Skipped (Refused (refusal_of n)))) r table out')))
       by true z y = accepted_alike
       by false true y = misformed_alike place
       by false false true = skipped_alike
-      by false false false = refused_alike n
+      by false false false = refused_alike (refusal_of n)
 
 pub answer_alike : (f : Form (Contents Entry)) (l : List ℕ) (switch : Bool) (r : Record) (table out out' : List ℤ) → 72 ≤ length out → length out' ≡ length out
     → Alike (length out) (answer_to f l switch r table out) (answer_to f l switch r table out')

@@ -1,32 +1,13 @@
 // The text of frames (document 01, "Frames out").
 #![tactic(auto)]
 
-ghost use Rattle.std.specs.Prelude.{◌≡◌, ◌+◌, ◌-◌, ◌*◌, ◌≤◌, ◌<◌, ◌++◌, length, take, drop};
-ghost use Rattle.std.proofs.Math.Option.{some};
+ghost use Rattle.std.specs.Prelude.{◌≡◌, ◌+◌, ◌-◌, ◌*◌, ◌≤◌, ◌<◌, ◌++◌, length, take, drop, Some};
 ghost use Rattle.std.proofs.lemmas.List.Edits.{sets};
 ghost use Rattle.grammar.specs.Bytes.{bytes};
 ghost use Rattle.rules.specs.Frames.{hex, complement, fields_used, fields, frame as frameText, frames_in, refusal_frame};
 ghost use Rattle.frames.specs.Text.{packed, frames_at, answer_frames, placed, laid};
 
 use rules::Answer;
-
-// Where the text goes on after what is put; or that nothing was put, since the commands are not all
-// there or the text has no room for their frames.
-#[derive(Clone, Copy)]
-pub enum Put {
-    At(usize),
-    Full,
-}
-
-// How many places there are from a place on: none, where it lies past the end.
-fn places_from(length: usize, at: usize) -> usize
-    ensures { result ≡ length - at }
-{
-    if length < at {
-        return 0;
-    }
-    length - at
-}
 
 // The last eight digits of a number, a byte each, as one number: halves, quarters and digits are
 // moved apart in it at once, and each digit from ten on carries into the bit above it when 6 is added.
@@ -51,9 +32,7 @@ fn put_hex(number: u64, digits: usize, text: &mut [u8], at: usize)
     ensures { text.new ≡ sets text.old at (hex digits number) }
 {
     let mut rest = packed_digits(number);
-    let mut left = digits;
-    while left > 0 {
-        left -= 1;
+    for left in (0..digits).rev() {
         text[at + left] = (rest % 256) as u8;
         rest /= 256;
     }
@@ -80,7 +59,8 @@ fn forty_bits(number: i64) -> u64
     }
 }
 
-// How many fields a kind of command uses.
+// How many fields a kind of command uses. Kinds stay numbers: they come from the lent numbers, so any is possible, and each of
+// them has its fields by the definition `fields_used`.
 fn fields_used(kind: u64) -> usize
     ensures { (result ≡ fields_used kind) × (result ≤ 7) }
 {
@@ -154,23 +134,21 @@ fn put_frames(out: &[i64], many: usize, text: &mut [u8], at: usize)
     }
 }
 
-// Puts the frames of the commands of an accepted line.
-fn accepted(many: usize, out: &[i64], text: &mut [u8], at: usize) -> Put
+// Puts the frames of the commands of an accepted line. It tells the place after what is put; or None where nothing was put,
+// since the commands are not all there or the text has no room for their frames.
+fn accepted(many: usize, out: &[i64], text: &mut [u8], at: usize) -> Option<usize>
     ensures { (result ≡ placed (frames_at many out.now) text.old at) × (text.new ≡ laid (frames_at many out.now) text.old at) }
 {
     if out.len() / 8 < many {
-        return Put::Full;
+        return None;
     }
-    // Past its end a text has no room, not even for no frame.
-    if text.len() < at {
-        return Put::Full;
-    }
+    let room = text.len().checked_sub(at)?;
     let size = frames_size(out, many);
-    if text.len() - at < size {
-        return Put::Full;
+    if room < size {
+        return None;
     }
     put_frames(out, many, text, at);
-    Put::At(at + size)
+    Some(at + size)
 }
 
 // Puts the frame of a refusal that has room.
@@ -184,23 +162,24 @@ fn put_refusal(number: u8, text: &mut [u8], at: usize)
 }
 
 // Puts the frame of a refusal.
-fn refusal(number: u8, text: &mut [u8], at: usize) -> Put
-    ensures { (result ≡ placed (some (refusal_frame number)) text.old at) × (text.new ≡ laid (some (refusal_frame number)) text.old at) }
+fn refusal(number: u8, text: &mut [u8], at: usize) -> Option<usize>
+    ensures { (result ≡ placed (Some (refusal_frame number)) text.old at) × (text.new ≡ laid (Some (refusal_frame number)) text.old at) }
 {
-    if places_from(text.len(), at) < 13 {
-        return Put::Full;
+    if text.len().saturating_sub(at) < 13 {
+        return None;
     }
     put_refusal(number, text, at);
-    Put::At(at + 13)
+    Some(at + 13)
 }
 
-// Puts what is written for a line: the frames of its commands, or of its refusal, or nothing.
-pub fn answer_frames(answer: Answer, out: &[i64], text: &mut [u8], at: usize) -> Put
+// Puts what is written for a line: the frames of its commands, or of its refusal, or nothing. It tells the place after it,
+// or None where nothing was put for want of commands or of room.
+pub fn answer_frames(answer: Answer, out: &[i64], text: &mut [u8], at: usize) -> Option<usize>
     ensures { (result ≡ placed (answer_frames answer out.now) text.old at) × (text.new ≡ laid (answer_frames answer out.now) text.old at) }
 {
     match answer {
         Answer::Accepted(many) => accepted(many as usize, out, text, at),
-        Answer::Refused(number) => refusal(number, text, at),
+        Answer::Refused(why) => refusal(why.number(), text, at),
         Answer::Skipped => accepted(0, out, text, at),
     }
 }

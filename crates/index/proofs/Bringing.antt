@@ -3,17 +3,17 @@
 use mathlib.Core.Path.{◌≡◌, refl, sym, ap, ap₂, ◌∙◌}
 use mathlib.Core.Bool.{Bool, true, false, cond}
 use mathlib.Core.List.{List, [], ◌∷◌}
-use mathlib.Core.Option.{Option, none, some}
+use Rattle.std.specs.Prelude.{Option, None, Some}
 use Prim.Native.Nat.{ℕ, zero, suc, ◌+◌, ◌-◌, ◌≤◌}
 use native.Mathlib.Omega.{arith}
-use borrow.Author.Tests.{eqb-true, eqb-false, eq-eqb, ne_eqb, le-leb, lt-leb}
-use lib.Dec.{eqb}
-use lib.ListN.{length, drop}
+use borrow.Author.Tests.{ne_eqb}
+use Rattle.std.proofs.lemmas.Bool.Decides.{nat_tests}
+use lib.ListN.{drop}
 use Rattle.grammar.specs.Grammar.{Line}
 use Rattle.grammar.specs.Derivation.{Form}
-use Rattle.texts.specs.Ends.{Piece, piece, pieces}
-use Rattle.index.specs.Index.{borne, bears, Place, place, size, first_from, place_of, Entry, RisingFrom, find, IndexOf, put, built, line_at, start_at, with_line, line_of, text_with, unfit, replace, replace_afresh}
-use Rattle.index.specs.Update.{seek, is_at, up_to, moved, entered, brought, bring}
+use Rattle.texts.specs.Ends.{Piece, pieces}
+use Rattle.index.specs.Index.{borne, bears, Place, place, size, first_from, place_of, Entry, RisingFrom, find, IndexOf, built, line_at, start_at, with_line, line_of, text_with, unfit, replace, replace_afresh}
+use Rattle.index.specs.Update.{is_at, up_to, moved, entered, brought, bring}
 use Rattle.index.proofs.Entries.{put_rises, put_same, put_other}
 use Rattle.index.proofs.Built.{built_is, only_index}
 use Rattle.index.proofs.Halving.{seek_find}
@@ -22,69 +22,34 @@ use Rattle.index.proofs.Replaced.{Fits, fits, lines_with, same_place, replaced_a
 -- ---- where a number's first line is, once line i is another
 
 module _ (tree : List ℕ → Form Line) (m : ℕ) where
-  first_beyond : (k at : ℕ) (ps : List Piece) (p : Place) → first_from tree m k at ps ≡ some p → k ≤ p.line
-  first_beyond k at [] p e = let z : ◌≡◌ {A = ℕ} 0 1 = cc in absurd (omega arith)
-  first_beyond k at (q ∷ ps) p e = go (bears (borne tree q.line) m) e (λ f. first_beyond (suc k) (at + size q) ps p f)
-    where
-      go : (t : Bool) → cond t (some (place k at)) (first_from tree m (suc k) (at + size q) ps) ≡ some p → (first_from tree m (suc k) (at + size q) ps ≡ some p → suc k ≤ p.line) → k ≤ p.line
-      go true f g = let r : place k at ≡ p = cc in let x : k ≡ p.line = ap (λ (y : Place). y.line) r in omega arith
-      go false f g = let x = g f in omega arith
+  first_beyond : (k at : ℕ) (ps : List Piece) (p : Place) → first_from tree m k at ps ≡ Some p → k ≤ p.line
+  first_beyond k at [] p e = cc
+  first_beyond k at (q ∷ ps) p e = grind (arith, nat_tests, first_beyond (suc k) (at + size q) ps p)
 
   not_up_to : (k at : ℕ) (ps : List Piece) → up_to k (first_from tree m (suc k) at ps) ≡ false
-  not_up_to k at ps = go (first_from tree m (suc k) at ps) refl
-    where
-      go : (o : Option Place) → first_from tree m (suc k) at ps ≡ o → up_to k o ≡ false
-      go none e = refl
-      go (some p) e = lt-leb p.line k (first_beyond (suc k) at ps p e)
+  not_up_to k at ps = grind (arith, nat_tests, first_beyond (suc k) at ps)
 
   module _ (old new : List ℕ) (f : Fits old new) where
     -- the new line bears it: that line, unless an earlier one does
-    new_first : bears (borne tree new) m ≡ true → (i k at : ℕ) (ps : List Piece) → line_at i ps ≡ some old
-        → first_from tree m k at (with_line i new ps) ≡ cond (up_to (k + i) (first_from tree m k at ps)) (first_from tree m k at ps) (some (place (k + i) (at + start_at i ps)))
-    new_first b i k at [] e = let z : ◌≡◌ {A = ℕ} 0 1 = cc in absurd (omega arith)
-    new_first b zero k at (p ∷ ps) e =
-        let a : k + 0 ≡ k = omega arith in
-        let c : at + 0 ≡ at = omega arith in
-        ap (λ (t : Bool). cond t (some (place k at)) (first_from tree m (suc k) (at + size (piece new p.end)) ps)) b
-        ∙ go (bears (borne tree p.line) m)
-        ∙ ap₂ (λ (x y : ℕ). cond (up_to x (first_from tree m k at (p ∷ ps))) (first_from tree m k at (p ∷ ps)) (some (place x y))) (sym a) (sym c)
-      where
-        go : (t : Bool) → some (place k at) ≡ cond (up_to k (cond t (some (place k at)) (first_from tree m (suc k) (at + size p) ps))) (cond t (some (place k at)) (first_from tree m (suc k) (at + size p) ps)) (some (place k at))
-        go true = sym (ap (λ (t : Bool). cond t (some (place k at)) (some (place k at))) (le-leb k k (omega arith)))
-        go false = sym (ap (λ (t : Bool). cond t (first_from tree m (suc k) (at + size p) ps) (some (place k at))) (not_up_to k (at + size p) ps))
-    new_first b (suc i) k at (p ∷ ps) e = go (bears (borne tree p.line) m) (new_first b i (suc k) (at + size p) ps e)
-      where
-        go : (t : Bool)
-            → first_from tree m (suc k) (at + size p) (with_line i new ps) ≡ cond (up_to (suc k + i) (first_from tree m (suc k) (at + size p) ps)) (first_from tree m (suc k) (at + size p) ps) (some (place (suc k + i) (at + size p + start_at i ps)))
-            → cond t (some (place k at)) (first_from tree m (suc k) (at + size p) (with_line i new ps))
-            ≡ cond (up_to (k + suc i) (cond t (some (place k at)) (first_from tree m (suc k) (at + size p) ps))) (cond t (some (place k at)) (first_from tree m (suc k) (at + size p) ps)) (some (place (k + suc i) (at + (size p + start_at i ps))))
-        go true h = sym (ap (λ (t : Bool). cond t (some (place k at)) (some (place (k + suc i) (at + (size p + start_at i ps))))) (le-leb k (k + suc i) (omega arith)))
-        go false h =
-            let a : suc k + i ≡ k + suc i = omega arith in
-            let c : at + size p + start_at i ps ≡ at + (size p + start_at i ps) = omega arith in
-            h ∙ ap₂ (λ (x y : ℕ). cond (up_to x (first_from tree m (suc k) (at + size p) ps)) (first_from tree m (suc k) (at + size p) ps) (some (place x y))) a c
+    new_first : bears (borne tree new) m ≡ true → (i k at : ℕ) (ps : List Piece) → line_at i ps ≡ Some old
+        → first_from tree m k at (with_line i new ps) ≡ cond (up_to (k + i) (first_from tree m k at ps)) (first_from tree m k at ps) (Some (place (k + i) (at + start_at i ps)))
+    new_first b i k at [] e = cc
+    new_first b zero k at (p ∷ ps) e = grind (arith, nat_tests, not_up_to k (at + size p) ps)
+    new_first b (suc i) k at (p ∷ ps) e = grind (arith, nat_tests, new_first b i (suc k) (at + size p) ps)
 
     -- the old line bears it and the new one does not: the next line that does, where the old one was the first
-    old_first : bears (borne tree new) m ≡ false → bears (borne tree old) m ≡ true → (i k at : ℕ) (ps : List Piece) → line_at i ps ≡ some old
+    old_first : bears (borne tree new) m ≡ false → bears (borne tree old) m ≡ true → (i k at : ℕ) (ps : List Piece) → line_at i ps ≡ Some old
         → first_from tree m k at (with_line i new ps) ≡ cond (is_at (k + i) (first_from tree m k at ps)) (first_from tree m (suc (k + i)) (at + start_at (suc i) ps) (drop (suc i) ps)) (first_from tree m k at ps)
-    old_first b d i k at [] e = let z : ◌≡◌ {A = ℕ} 0 1 = cc in absurd (omega arith)
-    old_first b d zero k at (p ∷ ps) e =
-        let q : p.line ≡ old = cc in
-        let a : k ≡ k + 0 = omega arith in
-        let s : at + size (piece new p.end) ≡ at + (size p + 0) = omega (arith, f.long, ap length q) in
-        let w : first_from tree m k at (p ∷ ps) ≡ some (place k at) = ap (λ (t : Bool). cond t (some (place k at)) (first_from tree m (suc k) (at + size p) ps)) (ap (λ (l : List ℕ). bears (borne tree l) m) q ∙ d) in
-        ap (λ (t : Bool). cond t (some (place k at)) (first_from tree m (suc k) (at + size (piece new p.end)) ps)) b
-        ∙ ap₂ (λ (x y : ℕ). first_from tree m (suc x) y ps) a s
-        ∙ sym (ap (λ (o : Option Place). cond (is_at (k + 0) o) (first_from tree m (suc (k + 0)) (at + (size p + 0)) ps) o) w
-        ∙ ap (λ (t : Bool). cond t (first_from tree m (suc (k + 0)) (at + (size p + 0)) ps) (some (place k at))) (eq-eqb k (k + 0) a))
+    old_first b d i k at [] e = cc
+    old_first b d zero k at (p ∷ ps) e = grind (arith, nat_tests, f.long)
     old_first b d (suc i) k at (p ∷ ps) e = go (bears (borne tree p.line) m) (old_first b d i (suc k) (at + size p) ps e)
       where
         go : (t : Bool)
             → first_from tree m (suc k) (at + size p) (with_line i new ps)
             ≡ cond (is_at (suc k + i) (first_from tree m (suc k) (at + size p) ps)) (first_from tree m (suc (suc k + i)) (at + size p + start_at (suc i) ps) (drop (suc i) ps)) (first_from tree m (suc k) (at + size p) ps)
-            → cond t (some (place k at)) (first_from tree m (suc k) (at + size p) (with_line i new ps))
-            ≡ cond (is_at (k + suc i) (cond t (some (place k at)) (first_from tree m (suc k) (at + size p) ps))) (first_from tree m (suc (k + suc i)) (at + (size p + start_at (suc i) ps)) (drop (suc i) ps)) (cond t (some (place k at)) (first_from tree m (suc k) (at + size p) ps))
-        go true h = sym (ap (λ (t : Bool). cond t (first_from tree m (suc (k + suc i)) (at + (size p + start_at (suc i) ps)) (drop (suc i) ps)) (some (place k at))) (ne_eqb k (k + suc i) (λ z. omega arith)))
+            → cond t (Some (place k at)) (first_from tree m (suc k) (at + size p) (with_line i new ps))
+            ≡ cond (is_at (k + suc i) (cond t (Some (place k at)) (first_from tree m (suc k) (at + size p) ps))) (first_from tree m (suc (k + suc i)) (at + (size p + start_at (suc i) ps)) (drop (suc i) ps)) (cond t (Some (place k at)) (first_from tree m (suc k) (at + size p) ps))
+        go true h = sym (ap (λ (t : Bool). cond t (first_from tree m (suc (k + suc i)) (at + (size p + start_at (suc i) ps)) (drop (suc i) ps)) (Some (place k at))) (ne_eqb k (k + suc i) (λ z. omega arith)))
         go false h =
             let a : suc k + i ≡ k + suc i = omega arith in
             let c : at + size p + start_at (suc i) ps ≡ at + (size p + start_at (suc i) ps) = omega arith in
@@ -93,68 +58,27 @@ module _ (tree : List ℕ → Form Line) (m : ℕ) where
 -- ---- what is found in the entries then
 
 entered_rises : (o : Option ℕ) (k at : ℕ) (es : List Entry) → RisingFrom 0 es → RisingFrom 0 (entered o k at es)
-entered_rises none k at es r = r
-entered_rises (some n) k at es r = go (up_to k (seek n es))
-  where
-    go : (t : Bool) → RisingFrom 0 (cond t es (put n (some (place k at)) es))
-    go true = r
-    go false = put_rises 0 n (some (place k at)) es (omega arith) r
+entered_rises None k at es r = r
+entered_rises (Some n) k at es r = grind (arith, nat_tests, put_rises 0 n (Some (place k at)) es)
 
 entered_finds : (o : Option ℕ) (m k at : ℕ) (es : List Entry) → RisingFrom 0 es
-    → find m (entered o k at es) ≡ cond (bears o m) (cond (up_to k (find m es)) (find m es) (some (place k at))) (find m es)
-entered_finds none m k at es r = refl
-entered_finds (some n) m k at es r = ap (λ (x : Option Place). find m (cond (up_to k x) es (put n (some (place k at)) es))) (seek_find 0 n es r) ∙ by (eqb n m) refl
-  where
-    by : (u : Bool) → eqb n m ≡ u → find m (cond (up_to k (find n es)) es (put n (some (place k at)) es)) ≡ cond u (cond (up_to k (find m es)) (find m es) (some (place k at))) (find m es)
-    by true e =
-        let q : n ≡ m = eqb-true n m e in
-        ap (λ (x : ℕ). find m (cond (up_to k (find x es)) es (put x (some (place k at)) es))) q ∙ go (up_to k (find m es))
-      where
-        go : (t : Bool) → find m (cond t es (put m (some (place k at)) es)) ≡ cond t (find m es) (some (place k at))
-        go true = refl
-        go false = put_same 0 m (some (place k at)) es r
-    by false e = go (up_to k (find n es))
-      where
-        go : (t : Bool) → find m (cond t es (put n (some (place k at)) es)) ≡ find m es
-        go true = refl
-        go false = put_other m n (some (place k at)) es (eqb-false n m e)
+    → find m (entered o k at es) ≡ cond (bears o m) (cond (up_to k (find m es)) (find m es) (Some (place k at))) (find m es)
+entered_finds None m k at es r = refl
+entered_finds (Some n) m k at es r = grind (arith, nat_tests, seek_find 0 n es r, put_same 0 n (Some (place k at)) es r, put_other m n (Some (place k at)) es)
 
 module _ (tree : List ℕ → Form Line) (new : Option ℕ) (k next : ℕ) (later : List Piece) (es : List Entry) (r : RisingFrom 0 es) where
   moved_rises : (o : Option ℕ) → RisingFrom 0 (moved tree o new k next later es)
-  moved_rises none = r
-  moved_rises (some o) = go (bears new o) (is_at k (seek o es))
-    where
-      go : (t u : Bool) → RisingFrom 0 (cond t es (cond u (put o (first_from tree o (suc k) next later) es) es))
-      go true u = r
-      go false true = put_rises 0 o (first_from tree o (suc k) next later) es (omega arith) r
-      go false false = r
+  moved_rises None = r
+  moved_rises (Some o) = grind (arith, nat_tests, put_rises 0 o (first_from tree o (suc k) next later) es)
 
   moved_finds : (o : Option ℕ) (m : ℕ)
       → find m (moved tree o new k next later es) ≡ cond (bears o m) (cond (bears new m) (find m es) (cond (is_at k (find m es)) (first_from tree m (suc k) next later) (find m es))) (find m es)
-  moved_finds none m = refl
-  moved_finds (some o) m =
-      ap (λ (x : Option Place). find m (cond (bears new o) es (cond (is_at k x) (put o (first_from tree o (suc k) next later) es) es))) (seek_find 0 o es r) ∙ by (eqb o m) refl
-    where
-      by : (u : Bool) → eqb o m ≡ u → find m (cond (bears new o) es (cond (is_at k (find o es)) (put o (first_from tree o (suc k) next later) es) es))
-          ≡ cond u (cond (bears new m) (find m es) (cond (is_at k (find m es)) (first_from tree m (suc k) next later) (find m es))) (find m es)
-      by true e =
-          let q : o ≡ m = eqb-true o m e in
-          ap (λ (x : ℕ). find m (cond (bears new x) es (cond (is_at k (find x es)) (put x (first_from tree x (suc k) next later) es) es))) q ∙ go (bears new m) (is_at k (find m es))
-        where
-          go : (t u : Bool) → find m (cond t es (cond u (put m (first_from tree m (suc k) next later) es) es)) ≡ cond t (find m es) (cond u (first_from tree m (suc k) next later) (find m es))
-          go true u = refl
-          go false true = put_same 0 m (first_from tree m (suc k) next later) es r
-          go false false = refl
-      by false e = go (bears new o) (is_at k (find o es))
-        where
-          go : (t u : Bool) → find m (cond t es (cond u (put o (first_from tree o (suc k) next later) es) es)) ≡ find m es
-          go true u = refl
-          go false true = put_other m o (first_from tree o (suc k) next later) es (eqb-false o m e)
-          go false false = refl
+  moved_finds None m = refl
+  moved_finds (Some o) m = grind (arith, nat_tests, seek_find 0 o es r, put_same 0 o (first_from tree o (suc k) next later) es r, put_other m o (first_from tree o (suc k) next later) es)
 
 -- ---- the index of the new text
 
-module _ (tree : List ℕ → Form Line) (text : List ℕ) (es : List Entry) (i : IndexOf tree text es) (j : ℕ) (old new : List ℕ) (e : line_at j (pieces text) ≡ some old) (u : unfit old new ≡ false) where
+module _ (tree : List ℕ → Form Line) (text : List ℕ) (es : List Entry) (i : IndexOf tree text es) (j : ℕ) (old new : List ℕ) (e : line_at j (pieces text) ≡ Some old) (u : unfit old new ≡ false) where
   -- the entries, by line 1 + j
   entries : List Entry
   entries = entered (borne tree new) (1 + j) (0 + start_at j (pieces text)) (moved tree (borne tree old) (borne tree new) (1 + j) (0 + start_at (suc j) (pieces text)) (drop (suc j) (pieces text)) es)
@@ -173,7 +97,7 @@ module _ (tree : List ℕ → Form Line) (text : List ℕ) (es : List Entry) (i 
 
       by : Fits old new → (t : Bool) → bears (borne tree new) m ≡ t → (s : Bool) → bears (borne tree old) m ≡ s → (x : Option Place)
           → x ≡ cond (bears (borne tree old) m) (cond (bears (borne tree new) m) (find m es) (cond (is_at (1 + j) (find m es)) (first_from tree m (suc (1 + j)) (0 + start_at (suc j) (pieces text)) (drop (suc j) (pieces text))) (find m es))) (find m es)
-          → cond (bears (borne tree new) m) (cond (up_to (1 + j) x) x (some (place (1 + j) (0 + start_at j (pieces text))))) x ≡ first_from tree m 1 0 (with_line j new (pieces text))
+          → cond (bears (borne tree new) m) (cond (up_to (1 + j) x) x (Some (place (1 + j) (0 + start_at j (pieces text))))) x ≡ first_from tree m 1 0 (with_line j new (pieces text))
       by f true b true d x g =
           let y : x ≡ first_from tree m 1 0 (pieces text) = g ∙ rw (d, b) told in
           rw (b, y) (sym (new_first tree m old new f b j 1 0 (pieces text) e))
@@ -210,8 +134,8 @@ module _ (tree : List ℕ → Form Line) (text : List ℕ) (es : List Entry) (i 
   brought_index = rw brought_entries entries_are
 
 module _ (tree : List ℕ → Form Line) (text : List ℕ) (es : List Entry) (k : ℕ) (new : List ℕ) (i : IndexOf tree text es) where
-  brought_afresh : (c : ℕ) (old : List ℕ) → line_of c text ≡ some old → unfit old new ≡ false → brought tree text es c old new ≡ built tree (text_with c new text)
-  brought_afresh zero old e u = let z : ◌≡◌ {A = ℕ} 0 1 = cc in absurd (omega arith)
+  brought_afresh : (c : ℕ) (old : List ℕ) → line_of c text ≡ Some old → unfit old new ≡ false → brought tree text es c old new ≡ built tree (text_with c new text)
+  brought_afresh zero old e u = cc
   brought_afresh (suc j) old e u = only_index tree (brought_index tree text es i j old new e u) (built_is tree (text_with (suc j) new text))
 
   -- where the entries are the text's index, the one brought up to date equals one built afresh

@@ -1,8 +1,7 @@
 pub mod Entries
 pub mod Holding
+pub mod Shifting
 pub mod Halving
-pub mod Ending
-pub mod Walking
 pub mod Built
 pub mod Bearing
 pub mod Gathering
@@ -10,6 +9,8 @@ pub mod Moving
 pub mod Finding
 pub mod Examples
 pub mod Replaced
+pub mod Walking
+pub mod Ending
 pub mod Bringing
 pub mod Handing
 pub mod Lasting

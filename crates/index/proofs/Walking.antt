@@ -1,196 +1,151 @@
--- The lines of a text by places: up to the next line feed, or to the text's end.
+-- The lines of a text one after the other, and where each stands.
 -- Assumes nothing.
-use mathlib.Core.Path.{◌≡◌, refl, sym, ap, ◌∙◌}
-use mathlib.Core.Option.{none}
-use mathlib.Core.List.{List, [], ◌∷◌, ◌++◌}
-use Prim.Native.Nat.{ℕ, suc, ◌+◌, ◌-◌, ◌≤◌, ◌<◌}
+use mathlib.Core.Path.{◌≡◌, refl, sym, ap, ap₂, ◌∙◌}
+use mathlib.Core.List.{List, [], ◌∷◌, ◌++◌, append_assoc}
+use Rattle.std.specs.Prelude.{None, Some, slice_range}
+use Prim.Native.Nat.{ℕ, zero, suc, ◌+◌, ◌-◌, ◌≤◌, ◌<◌}
 use native.Mathlib.Omega.{arith}
-use native.Mathlib.Numerals.{add-one}
-use borrow.Author.Tests.{ne_eqb}
-use lib.ListN.{length, take, drop, get_or, length-drop, length-append, take-append-drop, drop_of_length-le}
-use lib.Seq.{take-suc, take_all, get_or-drop, drop-drop, drop-cons, length-take-le}
-use Rattle.grammar.specs.Bytes.{byte, bytes}
-use Rattle.rules.specs.Frames.{without_return}
-use Rattle.texts.specs.Ends.{Piece, piece, return_of, pieces}
-use Rattle.texts.proofs.Cutting.{unfed, unfed_both, unfed_cons, last_of, last_is, feed_is, one_dropped, one_taken, none_taken}
+use lib.ListN.{length, take, drop, length-append, length-drop}
+use lib.Seq.{drop-append-add, take-append_seam, length-take-le}
+use Rattle.texts.specs.Ends.{Piece, pieces, joined}
+use Rattle.texts.proofs.Cutting.{fed, returned, Cut, none, last, next, cut_again, pieces_cut, joined_is}
+use Rattle.texts.proofs.Walking.{pieces_most}
 use Rattle.index.specs.Index.{size, line_at, start_at, line_of}
-use Rattle.index.specs.Lines.{part, FeedAt, EndAt, CutAt, LineAt}
-use Rattle.index.specs.declared.lines.Cut.{Cut}
+use Rattle.index.specs.Lines.{LineAt}
+use Rattle.index.proofs.Replaced.{line_none}
 
-none_dropped : (l : List ℕ) (b : ℕ) → (b ≡ byte "\r" → ⊥) → without_return (l ++ b ∷ []) ≡ l ++ b ∷ []
-none_dropped [] b n = rw (ne_eqb b (byte "\r") n)
-none_dropped (c ∷ []) b n = ap (λ (t : List ℕ). c ∷ t) (none_dropped [] b n)
-none_dropped (c ∷ d ∷ l) b n = ap (λ (t : List ℕ). c ∷ t) (none_dropped (d ∷ l) b n)
+pub part_long : (text : List ℕ) (at end : ℕ) → end ≤ length text → length (slice_range text at end) ≡ end - at
+part_long text at end h = length-take-le (end - at) (drop at text) (omega (arith, length-drop at text))
 
-module _ (text : List ℕ) (at : ℕ) where
-  part_none : part text at at ≡ []
-  part_none = let e : at - at ≡ 0 = omega arith in ap (λ (n : ℕ). take n (drop at text)) e
+-- ---- the lines from one on, and the text from its first byte on
 
-  pub part_long : (i : ℕ) → at ≤ i → i ≤ length text → length (part text at i) ≡ i - at
-  part_long i h k = length-take-le (i - at) (drop at text) (omega (arith, length-drop at text))
+drop_joined : (i : ℕ) (ps : List Piece) → drop (start_at i ps) (joined ps) ≡ joined (drop i ps)
+drop_joined zero ps = refl
+drop_joined (suc i) [] = refl
+drop_joined (suc i) (p ∷ ps) =
+    let x = p.line ++ p.end in
+    let n : size p + start_at i ps ≡ length x + start_at i ps = omega (arith, length-append p.line p.end) in
+    ap₂ drop n (sym (append_assoc p.line p.end (joined ps))) ∙ drop-append-add x (joined ps) (start_at i ps) ∙ drop_joined i ps
 
-  part_more : (i : ℕ) → at ≤ i → i < length text → part text at (i + 1) ≡ part text at i ++ get_or text i 0 ∷ []
-  part_more i h k =
-      let e : i + 1 - at ≡ suc (i - at) = omega arith in
-      let j : at + (i - at) ≡ i = omega arith in
-      ap (λ (n : ℕ). take n (drop at text)) e
-      ∙ take-suc (drop at text) (i - at) 0 (omega (arith, length-drop at text))
-      ∙ ap (λ (b : ℕ). take (i - at) (drop at text) ++ b ∷ []) (get_or-drop at text (i - at) 0 ∙ ap (λ (n : ℕ). get_or text n 0) j)
+cut_drop : {ps : List Piece} → Cut ps → (i : ℕ) → Cut (drop i ps)
+cut_drop c zero = c
+cut_drop none (suc i) = none
+cut_drop (last h) (suc zero) = none
+cut_drop (last h) (suc (suc i)) = none
+cut_drop (next e c) (suc i) = cut_drop c i
 
-  -- ---- the next line feed
+lines_from : (text : List ℕ) (i : ℕ) → pieces (drop (start_at i (pieces text)) text) ≡ drop i (pieces text)
+lines_from text i =
+    ap (λ (x : List ℕ). pieces (drop (start_at i (pieces text)) x)) (sym (joined_is text)) ∙ ap pieces (drop_joined i (pieces text)) ∙ cut_again (cut_drop (pieces_cut text) i)
 
-  pub feed_none : unfed (part text at at)
-  feed_none = rw part_none refl
+bytes_at : (i : ℕ) (ps : List Piece) (s : List ℕ) → line_at i ps ≡ Some s → take (length s) (drop (start_at i ps) (joined ps)) ≡ s
+bytes_at i ps s e = ap (take (length s)) (drop_joined i ps) ∙ go i ps e
+  where
+    go : (i : ℕ) (ps : List Piece) → line_at i ps ≡ Some s → take (length s) (joined (drop i ps)) ≡ s
+    go i [] e = cc
+    go zero (p ∷ ps) e = let q : p.line ≡ s = cc in ap (λ (x : List ℕ). take (length s) (x ++ (p.end ++ joined ps))) q ∙ take-append_seam s (p.end ++ joined ps)
+    go (suc i) (p ∷ ps) e = go i ps e
 
-  pub feed_on : {i : ℕ} → at ≤ i → i < length text → unfed (part text at i) → (get_or text i 0 ≡ 10 → ⊥) → unfed (part text at (i + 1))
-  feed_on {i} h k u n =
-      rw (part_more i h k) (unfed_both (part text at i) (get_or text i 0 ∷ []) u (unfed_cons (get_or text i 0) [] (ne_eqb (get_or text i 0) 10 n) refl))
+start_within : (i : ℕ) (ps : List Piece) → start_at i ps ≤ length (joined ps)
+start_within zero ps = omega arith
+start_within (suc i) [] = omega arith
+start_within (suc i) (p ∷ ps) = omega (arith, start_within i ps, length-append p.line (p.end ++ joined ps), length-append p.end (joined ps))
 
-  -- ---- the one carriage return
+-- each line has a byte, or what ends it has
+sized : {p : Piece} {ps : List Piece} → Cut (p ∷ ps) → 1 ≤ size p
+sized (last h) = omega arith
+sized (next (fed h u) c) = omega arith
+sized (next (returned h) c) = omega arith
 
-  pub end_empty : {feed : ℕ} → feed ≡ at → EndAt text at feed feed
-  end_empty {feed} e = record {
-    from = omega arith;
-    within = omega arith;
-    bare = rw (e, part_none) refl;
-    rest = rw (e, part_none) (omega arith);
-  }
+start_far : (i : ℕ) (ps : List Piece) → Cut ps → i ≤ length ps → i ≤ start_at i ps
+start_far zero ps c h = omega arith
+start_far (suc i) [] c h = absurd (omega arith)
+start_far (suc i) (p ∷ ps) c h = let k = sized c in let m = start_far i ps (cut_drop c 1) (omega arith) in omega arith
 
-  module _ {feed : ℕ} (h : at ≤ feed) (n : feed ≡ at → ⊥) (k : feed ≤ length text) where
-    above : at < feed
-    above = omega (arith, n)
+-- ---- the next line
 
-    last_byte : part text at feed ≡ part text at (feed - 1) ++ get_or text (feed - 1) 0 ∷ []
-    last_byte = let e : feed - 1 + 1 ≡ feed = omega (arith, above) in ap (part text at) (sym e) ∙ part_more (feed - 1) (omega (arith, above)) (omega (arith, above))
+pub record NextAt (i : ℕ) (ps : List Piece) (p : Piece) (rest : List Piece) : Type 0 where
+  pub later : drop (suc i) ps ≡ rest
+  pub start : start_at (suc i) ps ≡ start_at i ps + size p
+  pub line : line_at i ps ≡ Some p.line
+  pub more : i < length ps
 
-    pub end_return : get_or text (feed - 1) 0 ≡ 13 → EndAt text at feed (feed - 1)
-    end_return e =
-        let f : part text at feed ≡ part text at (feed - 1) ++ bytes "\r" = last_byte ∙ ap (λ (b : ℕ). part text at (feed - 1) ++ b ∷ []) e in
-        record {
-          from = omega (arith, above);
-          within = omega arith;
-          bare = ap without_return f ∙ one_dropped (part text at (feed - 1));
-          rest = ap (λ (l : List ℕ). length (return_of l)) f ∙ ap length (one_taken (part text at (feed - 1))) ∙ omega (arith, above);
-        }
+next_at : (i : ℕ) (ps : List Piece) {p : Piece} {rest : List Piece} → drop i ps ≡ p ∷ rest → NextAt i ps p rest
+next_at i [] e = go i e
+  where
+    go : (i : ℕ) {p : Piece} {rest : List Piece} → drop i [] ≡ p ∷ rest → NextAt i [] p rest
+    go zero e = cc
+    go (suc i) e = cc
+next_at zero (q ∷ ps) {p} {rest} e =
+    let a : q ≡ p = cc in
+    let b : ps ≡ rest = cc in
+    record { later = b; start = omega (arith, ap size a); line = ap (λ (x : Piece). Some x.line) a; more = omega arith }
+next_at (suc i) (q ∷ ps) e =
+    let n = next_at i ps e in
+    record { later = n.later; start = omega (arith, n.start); line = n.line; more = omega (arith, n.more) }
 
-    pub end_plain : (get_or text (feed - 1) 0 ≡ 13 → ⊥) → EndAt text at feed feed
-    end_plain e =
-        let f : without_return (part text at feed) ≡ part text at feed = ap without_return last_byte ∙ none_dropped (part text at (feed - 1)) (get_or text (feed - 1) 0) e ∙ sym last_byte in
-        record { from = h; within = omega arith; bare = f; rest = ap length (none_taken (part text at feed) f) ∙ omega arith }
+-- ---- line k, from 1: so many lines come before it, from the line that starts here on
 
-  -- ---- the line
-
-  module _ {feed : ℕ} (q : FeedAt text at feed) where
-    -- up to a line feed
-    pub cut_fed : (feed ≡ length text → ⊥) → {end : ℕ} → EndAt text at feed end → CutAt text at (record { end = end; next = feed + 1 })
-    cut_fed n {end} w =
-        let k : feed < length text = omega (arith, q.within, n) in
-        let a : at + (feed - at) ≡ feed = omega (arith, q.from) in
-        let d : drop at text ≡ part text at feed ++ byte "\n" ∷ drop (feed + 1) text =
-        sym (take-append-drop (feed - at) (drop at text))
-        ∙ ap (λ (l : List ℕ). part text at feed ++ l) (drop-drop (feed - at) at text ∙ ap (λ (x : ℕ). drop x text) a ∙ drop-cons text feed 0 k ∙ ap (λ (b : ℕ). b ∷ drop (suc feed) text) (q.feeds k) ∙ ap (λ (x : ℕ). byte "\n" ∷ drop x text) (sym (add-one feed))) in
-        record {
-          from = w.from;
-          behind = omega (arith, w.within);
-          on = omega (arith, q.from);
-          within = omega arith;
-          ending = return_of (part text at feed) ++ bytes "\n";
-          long = length-append (return_of (part text at feed)) (bytes "\n") ∙ omega (arith, w.rest, w.within);
-          cuts = ap pieces d ∙ feed_is (part text at feed) (drop (feed + 1) text) q.bare ∙ ap (λ (l : List ℕ). piece l (return_of (part text at feed) ++ bytes "\n") ∷ pieces (drop (feed + 1) text)) w.bare;
-        }
-
-    -- up to the text's end
-    pub cut_last : at < length text → feed ≡ length text → CutAt text at (record { end = feed; next = feed })
-    cut_last h e =
-        let d : part text at feed ≡ drop at text = take_all (feed - at) (drop at text) (omega (arith, length-drop at text)) in
-        let r : length text ≤ feed = omega arith in
-        let z : drop feed text ≡ [] = drop_of_length-le text r in
-        let l : last_of (drop at text) ≡ piece (drop at text) [] ∷ [] = ap last_of (drop-cons text at 0 h) ∙ ap (λ (x : List ℕ). piece x [] ∷ []) (sym (drop-cons text at 0 h)) in
-        record {
-          from = q.from;
-          behind = omega arith;
-          on = omega arith;
-          within = q.within;
-          ending = [];
-          long = omega arith;
-          cuts = last_is (drop at text) (rw d at q.bare) ∙ l ∙ ap (λ (x : List ℕ). piece x [] ∷ []) (sym d) ∙ ap (λ (x : List Piece). piece (part text at feed) [] ∷ x) (sym (ap pieces z ∙ last_is [] refl));
-        }
-
--- a line and its end take the bytes up to the next line
-pub cut_size : (text : List ℕ) (at : ℕ) {c : Cut} (q : CutAt text at c) → at + size (piece (part text at c.end) q.ending) ≡ c.next
-cut_size text at {c} q = omega (arith, part_long text at c.end q.from (omega (arith, q.behind, q.within)), q.long, q.from, q.behind)
-
--- ---- line k, from 1: so many lines are left to it, from a place on
-
-pub record OnTheWay (text : List ℕ) (k left at : ℕ) : Type 0 where
-  pub some : 1 ≤ left
-  pub most : left ≤ k
-  pub far : k ≤ at + left
-  pub within : at ≤ length text
-  pub line : line_at (left - 1) (pieces (drop at text)) ≡ line_at (k - 1) (pieces text)
-  pub start : at + start_at (left - 1) (pieces (drop at text)) ≡ start_at (k - 1) (pieces text)
-  pub next : at + start_at left (pieces (drop at text)) ≡ start_at k (pieces text)
-  pub later : drop left (pieces (drop at text)) ≡ drop k (pieces text)
+pub record OnTheWay (text : List ℕ) (k left start : ℕ) (rest : List Piece) : Type 0 where
+  pub most : left < k
+  pub later : drop (k - 1 - left) (pieces text) ≡ rest
+  pub begins : start ≡ start_at (k - 1 - left) (pieces text)
 
 module _ (text : List ℕ) (k : ℕ) where
-  pub way_none : k ≡ 0 → line_of k text ≡ none
-  way_none e = rw e
+  pub way_missing : {left start : ℕ} → OnTheWay text k left start [] → line_of k text ≡ None
+  way_missing {left} {start} q =
+      let l : length (pieces text) - (k - 1 - left) ≡ 0 = sym (length-drop (k - 1 - left) (pieces text)) ∙ ap length q.later in
+      let e : k ≡ suc (k - 1) = omega (arith, q.most) in
+      ap (λ (x : ℕ). line_of x text) e ∙ line_none (k - 1) (pieces text) (omega arith)
 
-  pub way_begun : (k ≡ 0 → ⊥) → OnTheWay text k k 0
-  way_begun n = record { some = omega (arith, n); most = omega arith; far = omega arith; within = omega arith; line = refl; start = omega arith; next = omega arith; later = refl }
+  module _ {left start : ℕ} {p : Piece} {rest : List Piece} (q : OnTheWay text k left start (p ∷ rest)) where
+    here : NextAt (k - 1 - left) (pieces text) p rest
+    here = next_at (k - 1 - left) (pieces text) q.later
 
-  module _ {left at : ℕ} (q : OnTheWay text k left at) where
-    pub way_missing : length text ≤ at → line_of k text ≡ none
-    way_missing h =
-        let e : k ≡ suc (k - 1) = omega (arith, q.some, q.most) in
-        let z : pieces (drop at text) ≡ [] = ap pieces (drop_of_length-le text h) ∙ last_is [] refl in
-        ap (λ (x : ℕ). line_of x text) e ∙ sym q.line ∙ ap (line_at (left - 1)) z
+    pub way_room : start + size p ≤ length text
+    way_room = omega (arith, here.start, q.begins, start_within (suc (k - 1 - left)) (pieces text), ap length (joined_is text))
 
-    module _ {c : Cut} (w : CutAt text at c) where
-      first : Piece
-      first = piece (part text at c.end) w.ending
+    pub way_found : left ≡ 0 → LineAt text k (record { start = start; end = start + length p.line; next = start + length p.line + length p.end })
+    way_found e =
+        let i : k - 1 - left ≡ k - 1 = omega arith in
+        let j : suc (k - 1 - left) ≡ k = omega (arith, q.most) in
+        let b : start_at (k - 1) (pieces text) ≡ start = ap (λ (x : ℕ). start_at x (pieces text)) (sym i) ∙ sym q.begins in
+        let a : start_at k (pieces text) ≡ start + length p.line + length p.end = ap (λ (x : ℕ). start_at x (pieces text)) (sym j) ∙ omega (arith, here.start, q.begins) in
+        let l : line_at (k - 1) (pieces text) ≡ Some p.line = ap (λ (x : ℕ). line_at x (pieces text)) (sym i) ∙ here.line in
+        let z : start + length p.line - start ≡ length p.line = omega arith in
+        let s : slice_range text start (start + length p.line) ≡ p.line =
+        ap₂ (λ (x y : ℕ). take x (drop y text)) z (sym b) ∙ ap (λ (x : List ℕ). take (length p.line) (drop (start_at (k - 1) (pieces text)) x)) (sym (joined_is text)) ∙ bytes_at (k - 1) (pieces text) p.line l in
+        record {
+          counts = omega (arith, q.most);
+          few = omega (arith, start_far k (pieces text) (pieces_cut text) (omega (arith, here.more)));
+          from = omega arith;
+          behind = omega arith;
+          within = omega (arith, way_room);
+          line = l ∙ ap Some (sym s);
+          start = b;
+          after = a;
+          later = sym (ap (λ (x : ℕ). pieces (drop x text)) (sym a) ∙ lines_from text k);
+        }
 
-      cuts : pieces (drop at text) ≡ first ∷ pieces (drop c.next text)
-      unfolding first
-      cuts = w.cuts
+    pub way_on : (left ≡ 0 → ⊥) → OnTheWay text k (left - 1) (start + length p.line + length p.end) rest
+    way_on n =
+        let j : k - 1 - (left - 1) ≡ suc (k - 1 - left) = omega (arith, n, q.most) in
+        record { most = omega (arith, q.most); later = rw j here.later; begins = rw j (omega (arith, here.start, q.begins)) }
 
-      sized : at + size first ≡ c.next
-      unfolding first
-      sized = cut_size text at w
+-- ---- from a line on, which is line k and starts at a place: how many lines and bytes are left
 
-      pub way_found : left ≡ 1 → LineAt text k at c.end c.next
-      unfolding first
-      way_found e =
-          let a : left - 1 ≡ 0 = omega arith in
-          record {
-            counts = omega (arith, q.some, q.most);
-            few = omega (arith, q.far, w.on);
-            from = w.from;
-            behind = w.behind;
-            on = w.on;
-            within = w.within;
-            line = sym q.line ∙ ap (λ (x : ℕ). line_at x (pieces (drop at text))) a ∙ ap (line_at 0) cuts;
-            start = sym q.start ∙ ap (λ (x : ℕ). at + start_at x (pieces (drop at text))) a ∙ omega arith;
-            after = sym q.next ∙ ap (λ (x : ℕ). at + start_at x (pieces (drop at text))) e ∙ ap (λ (x : List Piece). at + start_at 1 x) cuts ∙ omega (arith, sized);
-            later = sym q.later ∙ ap (λ (x : ℕ). drop x (pieces (drop at text))) e ∙ ap (drop 1) cuts;
-          }
+pub record Onward (text : List ℕ) (k at : ℕ) (rest : List Piece) : Type 0 where
+  pub few : k + length rest ≤ suc (length text)
+  pub bytes : at + length (joined rest) ≡ length text
 
-      pub way_on : (left ≡ 1 → ⊥) → OnTheWay text k (left - 1) c.next
-      unfolding first
-      way_on n =
-          let o : 2 ≤ left = omega (arith, q.some, n) in
-          let a : left - 1 ≡ suc (left - 1 - 1) = omega arith in
-          let b : left ≡ suc (left - 1) = omega arith in
-          let ps = pieces (drop c.next text) in
-          let s1 : start_at (left - 1) (pieces (drop at text)) ≡ size first + start_at (left - 1 - 1) ps = ap (start_at (left - 1)) cuts ∙ ap (λ (x : ℕ). start_at x (first ∷ ps)) a in
-          let s2 : start_at left (pieces (drop at text)) ≡ size first + start_at (left - 1) ps = ap (start_at left) cuts ∙ ap (λ (x : ℕ). start_at x (first ∷ ps)) b in
-          record {
-            some = omega arith;
-            most = omega (arith, q.most);
-            far = omega (arith, q.far, w.on);
-            within = w.within;
-            line = sym (ap (line_at (left - 1)) cuts ∙ ap (λ (x : ℕ). line_at x (first ∷ ps)) a) ∙ q.line;
-            start = omega (arith, s1, sized, q.start);
-            next = omega (arith, s2, sized, q.next);
-            later = sym (ap (drop left) cuts ∙ ap (λ (x : ℕ). drop x (first ∷ ps)) b) ∙ q.later;
-          }
+pub onward_begun : (text : List ℕ) → Onward text 1 0 (pieces text)
+onward_begun text = record { few = omega (arith, pieces_most text); bytes = omega (arith, ap length (joined_is text)) }
+
+pub onward_from : (text : List ℕ) (k at : ℕ) → at ≤ length text → k ≤ at + 1 → Onward text k at (pieces (drop at text))
+onward_from text k at h l = record { few = omega (arith, pieces_most (drop at text), length-drop at text); bytes = omega (arith, ap length (joined_is (drop at text)), length-drop at text) }
+
+pub onward_next : {text : List ℕ} {k at : ℕ} {p : Piece} {rest : List Piece} → Onward text k at (p ∷ rest) → Onward text (k + 1) (at + size p) rest
+onward_next {text} {k} {at} {p} {rest} q =
+    let b = q.bytes in
+    let f = q.few in
+    record { few = omega arith; bytes = omega (arith, length-append p.line (p.end ++ joined rest), length-append p.end (joined rest)) }

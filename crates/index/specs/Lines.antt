@@ -1,56 +1,31 @@
 -- The lines of a text by places.
 -- Assumes nothing.
-use Rattle.std.specs.Prelude.{◌≡◌, false, List, ◌∷◌, ℕ, ◌-◌, ◌≤◌, ◌<◌, length, take, drop, get_or}
-use Rattle.std.proofs.Math.Option.{none, some}
-use Rattle.grammar.specs.Bytes.{byte, among}
-use Rattle.rules.specs.Frames.{without_return}
-use Rattle.texts.specs.Ends.{piece, return_of, pieces}
-use Rattle.index.specs.Index.{line_at, start_at, line_of}
-use Rattle.index.specs.declared.lines.Cut.{Cut}
+use Rattle.std.specs.Prelude.{◌≡◌, cond, List, ℕ, ◌-◌, ◌≤◌, length, drop, slice_range, Option, None, Some, Result, Ok, Err}
+use Rattle.texts.specs.Ends.{pieces}
+use Rattle.index.specs.Index.{Refusal, NoSuchLine, UnfitLine, line_at, start_at, line_of, unfit}
 use Rattle.index.specs.declared.lines.Line.{Line}
-use Rattle.index.specs.declared.lines.Line.TheVariants.{At, Missing}
-
--- the bytes from a place to another
-abbrev pub part : List ℕ → ℕ → ℕ → List ℕ
-part text at end = take (end - at) (drop at text)
-
--- r is the place of the first line feed from a place on, or the text's end
-pub record FeedAt (text : List ℕ) (at r : ℕ) : Type 0 where
-  pub from : at ≤ r
-  pub within : r ≤ length text
-  pub bare : among (byte "\n") (part text at r) ≡ false
-  pub feeds : r < length text → get_or text r 0 ≡ byte "\n"
-
--- r is the end of a line up to its line feed, without the one carriage return
-pub record EndAt (text : List ℕ) (at feed r : ℕ) : Type 0 where
-  pub from : at ≤ r
-  pub within : r ≤ feed
-  pub bare : without_return (part text at feed) ≡ part text at r
-  pub rest : length (return_of (part text at feed)) ≡ feed - r
-
--- the line that starts at a place, its end, and where the next one starts
-pub record CutAt (text : List ℕ) (at : ℕ) (c : Cut) : Type 0 where
-  pub from : at ≤ c.end
-  pub behind : c.end ≤ c.next
-  pub on : at < c.next
-  pub within : c.next ≤ length text
-  pub ending : List ℕ
-  pub long : length ending ≡ c.next - c.end
-  pub cuts : pieces (drop at text) ≡ piece (part text at c.end) ending ∷ pieces (drop c.next text)
 
 -- line k, from 1, stands at a place, up to an end, and the next one starts at another place
-pub record LineAt (text : List ℕ) (k at end next : ℕ) : Type 0 where
+pub record LineAt (text : List ℕ) (k : ℕ) (l : Line) : Type 0 where
   pub counts : 1 ≤ k
-  pub few : k ≤ next
-  pub from : at ≤ end
-  pub behind : end ≤ next
-  pub on : at < next
-  pub within : next ≤ length text
-  pub line : line_at (k - 1) (pieces text) ≡ some (part text at end)
-  pub start : start_at (k - 1) (pieces text) ≡ at
-  pub after : start_at k (pieces text) ≡ next
-  pub later : drop k (pieces text) ≡ pieces (drop next text)
+  pub few : k ≤ l.next
+  pub from : l.start ≤ l.end
+  pub behind : l.end ≤ l.next
+  pub within : l.next ≤ length text
+  pub line : line_at (k - 1) (pieces text) ≡ Some (slice_range text l.start l.end)
+  pub start : start_at (k - 1) (pieces text) ≡ l.start
+  pub after : start_at k (pieces text) ≡ l.next
+  pub later : drop k (pieces text) ≡ pieces (drop l.next text)
 
-abbrev pub Walked : List ℕ → ℕ → Line → Type 0
-Walked text k (At at end next) = LineAt text k at end next
-Walked text k Missing = line_of k text ≡ none
+abbrev pub Walked : List ℕ → ℕ → Option Line → Type 0
+Walked text k (Some l) = LineAt text k l
+Walked text k None = line_of k text ≡ None
+
+-- why a new line may not stand in the place of the old one, where there is a reason
+abbrev pub refusal_of : List ℕ → Option (List ℕ) → Option Refusal
+refusal_of new None = Some NoSuchLine
+refusal_of new (Some old) = cond (unfit old new) (Some UnfitLine) None
+
+abbrev pub Fitting : List ℕ → ℕ → List ℕ → Result Line Refusal → Type 0
+Fitting text k new (Ok l) = LineAt text k l × (refusal_of new (line_of k text) ≡ None)
+Fitting text k new (Err e) = refusal_of new (line_of k text) ≡ Some e

@@ -1,5 +1,5 @@
-// The index of N numbers (request 10): what a number's place is. The entries of an index lie in one slice,
-// three numbers each: the N number, its first line, from 1, and that line's first byte, from 0.
+// The index of N numbers (request 10): what a number's place is. The entries of an index lie in the front of an
+// array, in rising order of their N numbers.
 #![tactic(auto)]
 
 mod building;
@@ -7,68 +7,47 @@ mod lines;
 mod replacing;
 mod space;
 
-ghost use Rattle.std.specs.Prelude.{◌≡◌, ◌*◌, ◌≤◌, min, length};
-ghost use Rattle.index.specs.Held.{searched, sought};
+ghost use Rattle.std.specs.Prelude.{◌≡◌, min, take};
+ghost use Rattle.index.specs.Held.{sought};
 
 pub use building::build;
 pub use replacing::replace;
-use space::stands;
+use space::search;
 
-// The place of a number; or that no line bears it.
-#[derive(Clone, Copy)]
-pub enum Found {
-    At { line: u32, start: u32 },
-    Nowhere,
+// A line, from 1, and that line's first byte, from 0.
+#[repr(C)]
+#[derive(Clone, Copy, PartialEq, Eq)]
+pub struct Place {
+    pub line: u32,
+    pub start: u32,
 }
 
-// What a call made of the index: so many entries it has now; or the number of a refusal, which leaves
-// text and index as they were.
-#[derive(Clone, Copy)]
-pub enum Answer {
-    Entries(usize),
-    Refused(u8),
+// An N number and the place of the first line that bears it. C lends three numbers for it.
+#[repr(C)]
+#[derive(Clone, Copy, PartialEq, Eq)]
+pub struct Entry {
+    pub number: u32,
+    pub place: Place,
 }
 
-// How many of the first entries have a number below n, by halving, where the entries rise.
-pub(crate) fn first_from(index: &[u32], count: usize, n: u32) -> usize
-    requires { 3 * count ≤ length index.now }
-    ensures { result ≡ searched index.now count n }
-{
-    let mut low: usize = 0;
-    let mut high: usize = count;
-    while low < high {
-        let middle = low + (high - low) / 2;
-        if index[3 * middle] < n {
-            low = middle + 1;
-        } else {
-            high = middle;
-        }
-    }
-    low
-}
-
-// An index has 2,000 entries at most.
-pub(crate) fn entries_of(count: usize) -> usize
-    ensures { result ≡ min count 2000 }
-{
-    if 2000 < count {
-        return 2000;
-    }
-    count
+// Why a text or a replacement is refused; text and index are then as they were.
+#[derive(Clone, Copy, PartialEq, Eq)]
+pub enum Refusal {
+    TextTooLong,
+    TooManyNumbers,
+    NoSuchLine,
+    // It has another length, or holds a line end.
+    UnfitLine,
 }
 
 // "Asking for a number gives that place, or `none`". A search that halves, since an index rises. The index has
 // `count` entries.
-pub fn find(index: &[u32; 6000], count: usize, n: u32) -> Found
-    ensures { result ≡ sought index.now (min count 2000) n }
+pub fn find(index: &[Entry; 2000], count: usize, n: u32) -> Option<Place>
+    ensures { result ≡ sought (take (min count 2000) index.now) n }
 {
-    let held = entries_of(count);
-    let i = first_from(index, held, n);
-    if stands(index, held, i, n) {
-        return Found::At {
-            line: index[3 * i + 1],
-            start: index[3 * i + 2],
-        };
+    let held = &index[..count.min(2000)];
+    match search(held, n) {
+        Ok(i) => Some(held[i].place),
+        Err(_) => None,
     }
-    Found::Nowhere
 }

@@ -1,84 +1,51 @@
-// The lines of a text, one at a time: where a line ends, and where the next one starts.
-ghost use Rattle.std.specs.Prelude.{◌≤◌, ◌<◌, length};
-ghost use Rattle.index.specs.Lines.{FeedAt, EndAt, CutAt, Walked};
+// A text, and where a line of it stands.
+ghost use Rattle.std.specs.Prelude.{◌≡◌, ◌≤◌, ◌<◌, length, MatchResult};
+ghost use Rattle.index.specs.declared.Refusal.TheVariants.{TextTooLong};
+ghost use Rattle.index.specs.Lines.{Walked};
 
-// A line's end, before its line feed and one carriage return, and the place past them.
+use super::Refusal;
+use texts::Pieces;
+
+// A text that is short enough for an index.
 #[derive(Clone, Copy)]
-pub(crate) struct Cut {
+pub(crate) struct Text<'a> {
+    pub(crate) bytes: &'a [u8],
+    ghost short: { length bytes.now ≤ 60000 },
+}
+
+impl<'a> Text<'a> {
+    pub(crate) fn new(bytes: &'a [u8]) -> Result<Text<'a>, Refusal>
+        ensures { MatchResult result (λ t. t.bytes.now ≡ bytes.now) (λ e. (e ≡ TextTooLong) × (60000 < length bytes.now)) }
+    {
+        if 60000 < bytes.len() {
+            return Err(Refusal::TextTooLong);
+        }
+        Ok(Text { bytes })
+    }
+}
+
+// A line of a text: its first byte, its end, and where the next one starts.
+#[derive(Clone, Copy)]
+pub(crate) struct Line {
+    pub(crate) start: usize,
     pub(crate) end: usize,
     pub(crate) next: usize,
 }
 
-// A line of a text: its first byte, its end, and where the next one starts; or that there is none.
-#[derive(Clone, Copy)]
-pub(crate) enum Line {
-    At(usize, usize, usize),
-    Missing,
-}
-
-// The place of the first line feed from here on, or the text's end.
-fn feed_from(text: &[u8], at: usize) -> usize
-    requires { at ≤ length text.now }
-    ensures { FeedAt text.now at result }
-{
-    let mut i = at;
-    while i < text.len() {
-        if text[i] == b'\n' {
-            return i;
-        }
-        i += 1;
-    }
-    i
-}
-
-// The end of a line that a line feed ends: one carriage return before that is no part of the line.
-fn bare_end(text: &[u8], at: usize, feed: usize) -> usize
-    requires { (at ≤ feed) × (feed ≤ length text.now) }
-    ensures { EndAt text.now at feed result }
-{
-    if feed == at {
-        return feed;
-    }
-    if text[feed - 1] == b'\r' {
-        return feed - 1;
-    }
-    feed
-}
-
-// The line that starts here.
-pub(crate) fn line_at(text: &[u8], at: usize) -> Cut
-    requires { at < length text.now }
-    ensures { CutAt text.now at result }
-{
-    let feed = feed_from(text, at);
-    if feed == text.len() {
-        return Cut {
-            end: feed,
-            next: feed,
-        };
-    }
-    Cut {
-        end: bare_end(text, at, feed),
-        next: feed + 1,
-    }
-}
-
 // Line k of the text, from 1.
-pub(crate) fn line_of(text: &[u8], k: u32) -> Line
+pub(crate) fn line_of(text: &[u8], k: u32) -> Option<Line>
     ensures { Walked text.now k result }
 {
-    if k == 0 {
-        return Line::Missing;
-    }
-    let mut left = k;
-    let mut at: usize = 0;
-    while at < text.len() {
-        let cut = line_at(text, at);
-        if left == 1 {
-            return Line::At(at, cut.end, cut.next);
+    let mut left = k.checked_sub(1)?;
+    let mut start: usize = 0;
+    for piece in Pieces(text) {
+        let end = start + piece.line.len();
+        let next = end + piece.end.len();
+        if left == 0 {
+            return Some(Line { start, end, next });
         }
         left -= 1;
-        at = cut.next;
+        start = next;
     }
-    Line::Missing
+    None
 }

@@ -1,93 +1,152 @@
-// The entries of an index in a space of numbers, three to an entry: one is put in, put right or taken out.
-ghost use Rattle.std.specs.Prelude.{◌≡◌, ◌+◌, ◌*◌, ◌≤◌, length};
+// The entries of an index: asked for a number, whatever they are, and one put in, put right or taken out.
+ghost use Rattle.std.specs.Prelude.{◌≡◌, List, ◌≤◌, ◌<◌, length, take, slice_set};
+ghost use Rattle.std.specs.List.{insert, remove};
 ghost use Rattle.index.specs.Index.{put};
-ghost use Rattle.index.specs.Held.{kept, before, present, placed};
-ghost use Rattle.index.specs.Space.{Raised, Lowered, Wrote, Holds};
+ghost use Rattle.index.specs.Held.{before, spot, searched, answer_of, handed};
+ghost use Rattle.index.specs.declared.Entry.{Entry};
 
-use super::Found;
+use super::{Entry, Place, Refusal};
+use std::marker::Model;
+
+// How many of the entries have a number below n, by halving, where they rise. The loop is written out, since
+// `find` answers as `searched` says on any entries, and the binary search of std on those alone that are sorted.
+fn first_from(entries: &[Entry], n: u32) -> usize
+    ensures { result ≡ searched entries.now n }
+{
+    let mut low: usize = 0;
+    let mut high: usize = entries.len();
+    while low < high {
+        let middle = low + (high - low) / 2;
+        if entries[middle].number < n {
+            low = middle + 1;
+        } else {
+            high = middle;
+        }
+    }
+    low
+}
 
 // How many entries come before the first whose number is not below n, one by one: the entries need not rise.
-pub(crate) fn below(space: &[u32], count: usize, n: u32) -> usize
-    requires { 3 * count ≤ length space.now }
-    ensures { result ≡ before n (kept space.now count) }
+fn below(entries: &[Entry], n: u32) -> usize
+    ensures { result ≡ before n entries.now }
 {
-    let mut i: usize = 0;
-    while i < count {
-        if n <= space[3 * i] {
+    for (i, entry) in entries.iter().enumerate() {
+        if n <= entry.number {
             return i;
         }
-        i += 1;
     }
-    i
+    entries.len()
 }
 
-// Whether the entry i is there and has the number n.
-pub(crate) fn stands(space: &[u32], count: usize, i: usize, n: u32) -> bool
-    requires { 3 * count ≤ length space.now }
-    ensures { result ≡ present space.now count i n }
+// The entry i, where it has the number n; or that n's would be put in there.
+fn spot(entries: &[Entry], i: usize, n: u32) -> Result<usize, usize>
+    ensures { result ≡ spot entries.now i n }
 {
-    if i < count {
-        return space[3 * i] == n;
+    if i < entries.len() && entries[i].number == n {
+        return Ok(i);
     }
-    false
+    Err(i)
 }
 
-// Moves the numbers from `from` to `end` three places up.
-fn raise(space: &mut [u32], from: usize, end: usize)
-    requires { (from ≤ end) × (end + 3 ≤ length space.old) }
-    ensures { Raised space.old space.new end from }
+// n's entry, or where it would be put in: by halving, where the entries rise; and one by one.
+pub(crate) fn search(entries: &[Entry], n: u32) -> Result<usize, usize>
+    ensures { result ≡ spot entries.now (searched entries.now n) n }
 {
-    let mut i = end;
-    while from < i {
-        i -= 1;
-        space[i + 3] = space[i];
+    spot(entries, first_from(entries, n), n)
+}
+
+pub(crate) fn scan(entries: &[Entry], n: u32) -> Result<usize, usize>
+    ensures { result ≡ spot entries.now (before n entries.now) n }
+{
+    spot(entries, below(entries, n), n)
+}
+
+// What a space of entries holds before any is written there.
+pub(crate) const BLANK: Entry = Entry {
+    number: 0,
+    place: Place { line: 0, start: 0 },
+};
+
+// Entries that change: those of an index, and room for the two that a replacement may bring in before it is refused.
+// Each call writes its literal out: handed over by a function, the space would lie on the stack twice.
+#[derive(Drop)]
+pub(crate) struct Entries {
+    pub(crate) space: [Entry; 2002],
+    pub(crate) count: usize,
+}
+
+impl Model for Entries {
+    ghost Value = { List Entry };
+
+    ghost view = { λ s. take s.count s.space };
+
+    ghost invariant = { λ s. s.count ≤ 2002 };
+}
+
+impl Entries {
+    // These entries, in the place of what there is.
+    pub(crate) fn take_in(&mut self, entries: &[Entry])
+        requires { length entries.now ≤ 2002 }
+        ensures { self.new ≡ entries.now }
+    {
+        self.space[..entries.len()].copy_from_slice(entries);
+        self.count = entries.len();
     }
-}
 
-// Moves the numbers from `from + 3` to `end` three places down.
-fn lower(space: &mut [u32], from: usize, end: usize)
-    requires { (from + 3 ≤ end) × (end ≤ length space.old) }
-    ensures { Lowered space.old space.new from end }
-{
-    let mut i = from + 3;
-    while i < end {
-        space[i - 3] = space[i];
-        i += 1;
+    pub(crate) fn held(&self) -> &[Entry]
+        ensures { result.now ≡ self.now }
+    {
+        &self.space[..self.count]
     }
-}
 
-// Writes an entry.
-fn write(space: &mut [u32], i: usize, n: u32, line: u32, start: u32)
-    requires { 3 * i + 3 ≤ length space.old }
-    ensures { Wrote space.old space.new i n line start }
-{
-    space[3 * i] = n;
-    space[3 * i + 1] = line;
-    space[3 * i + 2] = start;
-}
+    pub(crate) fn insert(&mut self, i: usize, entry: Entry)
+        requires { (i ≤ length self.old) × (length self.old < 2002) }
+        ensures { self.new ≡ insert self.old i entry }
+    {
+        self.space.copy_within(i..self.count, i + 1);
+        self.space[i] = entry;
+        self.count += 1;
+    }
 
-// The place of n put right, where i entries come before it, and how many entries there are then.
-pub(crate) fn put_at(space: &mut [u32], count: usize, i: usize, n: u32, place: Found) -> usize
-    requires { (3 * count + 3 ≤ length space.old) × (i ≡ before n (kept space.old count)) }
-    ensures { Holds space.old space.new result (put n (placed place) (kept space.old count)) }
-{
-    let there = stands(space, count, i, n);
-    match place {
-        Found::At { line, start } => {
-            if there {
-                write(space, i, n, line, start);
-                return count;
-            }
-            raise(space, 3 * i, 3 * count);
-            write(space, i, n, line, start);
-            count + 1
+    fn remove(&mut self, i: usize)
+        requires { i < length self.old }
+        ensures { self.new ≡ remove self.old i }
+    {
+        self.space.copy_within(i + 1..self.count, i);
+        self.count -= 1;
+    }
+
+    fn write(&mut self, i: usize, entry: Entry)
+        requires { i < length self.old }
+        ensures { self.new ≡ slice_set self.old i entry }
+    {
+        let space = &mut self.space;
+        space[i] = entry;
+    }
+
+    // The place of n put right.
+    pub(crate) fn put(&mut self, n: u32, place: Option<Place>)
+        requires { length self.old < 2002 }
+        ensures { self.new ≡ put n place self.old }
+    {
+        match (scan(self.held(), n), place) {
+            (Ok(i), Some(place)) => self.write(i, Entry { number: n, place }),
+            (Ok(i), None) => self.remove(i),
+            (Err(i), Some(place)) => self.insert(i, Entry { number: n, place }),
+            (Err(_), None) => {}
         }
-        Found::Nowhere => {
-            if there {
-                lower(space, 3 * i, 3 * count);
-                return count - 1;
-            }
-            count
+    }
+
+    // Puts the entries into the front of an index, and tells how many they are, unless they are more than it may have.
+    pub(crate) fn hand_over(&self, index: &mut [Entry; 2000]) -> Result<usize, Refusal>
+        ensures answer { result ≡ answer_of self.now }
+        ensures index { index.new ≡ handed self.now index.old }
+    {
+        let held = self.held();
+        if 2000 < held.len() {
+            return Err(Refusal::TooManyNumbers);
         }
+        index[..held.len()].copy_from_slice(held);
+        Ok(held.len())
     }
 }

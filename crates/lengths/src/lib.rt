@@ -26,7 +26,7 @@ pub fn convert(units: u16, v: Value) -> Length
 pub fn extent(l: Length) -> u64
     ensures { result ≡ nat_abs l.0 }
 {
-    value::size_of(l.0)
+    l.0.unsigned_abs()
 }
 
 pub fn is_zero_length(l: Length) -> bool
@@ -38,47 +38,28 @@ pub fn is_zero_length(l: Length) -> bool
 pub fn in_reach(l: Length) -> bool
     ensures { result ≡ within 1000000000 l.0 }
 {
-    let counts = l.0;
-    if counts < -1_000_000_000 {
-        return false;
-    }
-    counts <= 1_000_000_000
+    extent(l) <= 1_000_000_000
 }
 
 // The sum of two lengths, or the farthest length of its sign.
 pub fn add(a: Length, b: Length) -> Length
     ensures { result ≡ saturated (a.0 +ℤ b.0) }
 {
-    let x = a.0;
-    let y = b.0;
-    if 0 < y {
-        if 9_223_372_036_854_775_807 - y < x {
-            return farthest(false);
-        }
-        return Length(x + y);
-    }
-    if x < -9_223_372_036_854_775_807 - y {
-        return farthest(true);
-    }
-    Length(x + y)
+    held(a.0.saturating_add(b.0))
 }
 
 // The difference of two lengths, or the farthest length of its sign.
 pub fn subtract(a: Length, b: Length) -> Length
     ensures { result ≡ saturated (a.0 -ℤ b.0) }
 {
-    let x = a.0;
-    let y = b.0;
-    if y < 0 {
-        if 9_223_372_036_854_775_807 + y < x {
-            return farthest(false);
-        }
-        return Length(x - y);
-    }
-    if x < -9_223_372_036_854_775_807 + y {
-        return farthest(true);
-    }
-    Length(x - y)
+    held(a.0.saturating_sub(b.0))
+}
+
+// So many counts. The machine's lowest number alone is beyond the farthest length.
+fn held(counts: i64) -> Length
+    ensures { result ≡ saturated counts }
+{
+    Length(counts.max(-i64::MAX))
 }
 
 fn converted(units: u16, v: Value) -> Length
@@ -96,8 +77,8 @@ fn farthest(negative: bool) -> Length
     ensures { result ≡ farthest negative }
 {
     if negative {
-        Length(-9_223_372_036_854_775_807)
+        Length(-i64::MAX)
     } else {
-        Length(9_223_372_036_854_775_807)
+        Length(i64::MAX)
     }
 }

@@ -2,11 +2,12 @@
 // include/rs274_index.h declares it for C.
 #![tactic(auto)]
 
-ghost use Rattle.std.specs.Prelude.{◌≡◌, min};
+ghost use Rattle.std.specs.Prelude.{◌≡◌, min, take};
+ghost use Rattle.index.specs.Index.{refusal_number};
 ghost use Rattle.index.specs.Held.{sought};
 ghost use Rattle.lookup.specs.Plain.{answered, placed, Built, Replaced};
 
-use index::{Answer, Found};
+use index::{Entry, Place, Refusal};
 
 // 0 and how many entries the index has now; or the number of a refusal, and 0.
 #[repr(C)]
@@ -24,56 +25,71 @@ pub struct Rs274Place {
     pub start: u32,
 }
 
-fn answered(answer: Answer) -> Rs274Indexed
-    ensures { result ≡ answered answer }
+fn refusal_number(refusal: Refusal) -> u32
+    ensures { result ≡ refusal_number refusal }
 {
-    match answer {
-        Answer::Entries(count) => Rs274Indexed {
-            number: 0,
-            count: count as u64,
-        },
-        Answer::Refused(number) => Rs274Indexed {
-            number: number as u32,
-            count: 0,
-        },
+    match refusal {
+        Refusal::TextTooLong => 30,
+        Refusal::TooManyNumbers => 31,
+        Refusal::NoSuchLine => 32,
+        Refusal::UnfitLine => 33,
     }
 }
 
-fn placed(found: Found) -> Rs274Place
-    ensures { result ≡ placed found }
-{
-    match found {
-        Found::At { line, start } => Rs274Place { line, start },
-        Found::Nowhere => Rs274Place { line: 0, start: 0 },
+impl From<Result<usize, Refusal>> for Rs274Indexed {
+    ghost from_gives = { λ x y. y ≡ answered x };
+
+    fn from(answer: Result<usize, Refusal>) -> Rs274Indexed {
+        match answer {
+            Ok(count) => Rs274Indexed {
+                number: 0,
+                count: count as u64,
+            },
+            Err(refusal) => Rs274Indexed {
+                number: refusal_number(refusal),
+                count: 0,
+            },
+        }
+    }
+}
+
+impl From<Option<Place>> for Rs274Place {
+    ghost from_gives = { λ x y. y ≡ placed x };
+
+    fn from(found: Option<Place>) -> Rs274Place {
+        match found {
+            Some(Place { line, start }) => Rs274Place { line, start },
+            None => Rs274Place { line: 0, start: 0 },
+        }
     }
 }
 
 // Builds the index of a text.
 #[unsafe(no_mangle)]
-pub extern "C" fn rs274_index_build(text: &[u8], entries: &mut [u32; 6000]) -> Rs274Indexed
+pub extern "C" fn rs274_index_build(text: &[u8], entries: &mut [Entry; 2000]) -> Rs274Indexed
     ensures { Built text.now entries.old result entries.new }
 {
-    answered(index::build(text, entries))
+    Rs274Indexed::from(index::build(text, entries))
 }
 
 // The place of a number, in an index of so many entries.
 #[unsafe(no_mangle)]
-pub extern "C" fn rs274_index_find(entries: &[u32; 6000], count: usize, n: u32) -> Rs274Place
-    ensures { result ≡ placed (sought entries.now (min count 2000) n) }
+pub extern "C" fn rs274_index_find(entries: &[Entry; 2000], count: usize, n: u32) -> Rs274Place
+    ensures { result ≡ placed (sought (take (min count 2000) entries.now) n) }
 {
-    placed(index::find(entries, count, n))
+    Rs274Place::from(index::find(entries, count, n))
 }
 
 // Replaces line k of a text, and brings its index, of so many entries, up to date.
 #[unsafe(no_mangle)]
 pub extern "C" fn rs274_index_replace(
     text: &mut [u8],
-    entries: &mut [u32; 6000],
+    entries: &mut [Entry; 2000],
     count: usize,
     k: u32,
     line: &[u8],
 ) -> Rs274Indexed
     ensures { Replaced text.old entries.old count k line.now result text.new entries.new }
 {
-    answered(index::replace(text, entries, count, k, line))
+    Rs274Indexed::from(index::replace(text, entries, count, k, line))
 }

@@ -3,29 +3,27 @@
 use mathlib.Core.Path.{◌≡◌, refl, sym, ap, ◌∙◌}
 use mathlib.Core.Bool.{Bool, true, false, cond, not, ◌&&◌}
 use mathlib.Core.List.{List, [], ◌∷◌}
-use mathlib.Core.Logic.{◌⊎◌, inl, inr, ⊎_elim}
 use Prim.Native.Nat.{ℕ, suc, ◌+◌, ◌≤◌, ◌<◌}
 use native.Mathlib.Numerals.{add-one}
 use native.Mathlib.Omega.{arith}
 use lib.Dec.{eqb}
 use lib.ListN.{length, drop, get_or, drop_of_length-le, length-drop}
 use lib.Seq.{drop-cons, drop-drop, get_or-drop}
-use borrow.Author.Tests.{ne_eqb, eq-eqb}
 use Rattle.grammar.specs.Bytes.{byte}
 use Rattle.grammar.specs.Derivation.{blank}
 use Rattle.rules.specs.Promise.{opens, plain_mark}
 use Rattle.marks.specs.Blanks.{blanks, past_blanks}
 
 module _ (line : List ℕ) (i : ℕ) where
-  -- a tab or a space is passed
-  pub one_more : i < length line → (get_or line i 0 ≡ 9) ⊎ (get_or line i 0 ≡ 32) → past_blanks line i ≡ past_blanks line (i + 1)
+  -- a blank is passed
+  pub one_more : i < length line → blank (get_or line i 0) ≡ true → past_blanks line i ≡ past_blanks line (i + 1)
   unfolding past_blanks
-  one_more h b = rw (drop-cons line i 0 h, add-one i) (⊎_elim (λ e. rw e (omega arith)) (λ e. rw e (omega arith)) b)
+  one_more h e = rw (drop-cons line i 0 h, add-one i, e) (omega arith)
 
   -- any other byte is where they end
-  pub no_blank : i < length line → ((get_or line i 0 ≡ 9) ⊎ (get_or line i 0 ≡ 32) → ⊥) → past_blanks line i ≡ i
+  pub no_blank : i < length line → blank (get_or line i 0) ≡ false → past_blanks line i ≡ i
   unfolding past_blanks
-  no_blank h n = rw (drop-cons line i 0 h, ne_eqb (get_or line i 0) 32 (λ e. n (inr e)), ne_eqb (get_or line i 0) 9 (λ e. n (inl e))) (omega arith)
+  no_blank h e = rw (drop-cons line i 0 h, e) (omega arith)
 
   pub no_more : length line ≤ i → past_blanks line i ≡ i
   unfolding past_blanks
@@ -68,15 +66,9 @@ module _ (line : List ℕ) (at : ℕ) {i : ℕ} (past : i ≡ past_blanks line a
   unfolding opens
   opens_nowhere h = over opens (λ b s e. rw e) ∙ rw (drop_of_length-le line h)
 
-  mark_here : (mark : ℕ) → i < length line → plain_mark mark (drop at line) ≡ (eqb (get_or line i 0) mark && not (opens (drop (i + 1) line)))
+  pub mark_here : (mark : ℕ) → i < length line → plain_mark mark (drop at line) ≡ (eqb (get_or line i 0) mark && not (opens (drop (i + 1) line)))
   unfolding plain_mark
   mark_here mark h = over (plain_mark mark) (λ b s e. rw e) ∙ rw (drop-cons line i 0 h, bare h, add-one i)
-
-  pub mark_other : (mark : ℕ) → i < length line → (get_or line i 0 ≡ mark → ⊥) → plain_mark mark (drop at line) ≡ false
-  mark_other mark h n = mark_here mark h ∙ rw (ne_eqb (get_or line i 0) mark n)
-
-  pub mark_plain : (mark : ℕ) → i < length line → get_or line i 0 ≡ mark → plain_mark mark (drop at line) ≡ not (opens (drop (i + 1) line))
-  mark_plain mark h e = mark_here mark h ∙ rw (eq-eqb (get_or line i 0) mark e)
 
   pub mark_nowhere : (mark : ℕ) → length line ≤ i → plain_mark mark (drop at line) ≡ false
   unfolding plain_mark

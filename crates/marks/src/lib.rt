@@ -9,15 +9,12 @@ ghost use Rattle.marks.specs.Blanks.{past_blanks};
 fn past_blanks(line: &[u8], at: usize) -> usize
     ensures { result ≡ past_blanks line.now at }
 {
-    let mut i = at;
-    while i < line.len() {
-        match line[i] {
-            b' ' | b'\t' => {}
-            _ => return i,
+    for i in at..line.len() {
+        if !text::bytes::is_blank(line[i]) {
+            return i;
         }
-        i += 1;
     }
-    i
+    line.len().max(at)
 }
 
 // Whether `[` is the first byte from here on that is no blank.
@@ -25,10 +22,7 @@ fn opens(line: &[u8], at: usize) -> bool
     ensures { result ≡ opens (drop at line.now) }
 {
     let i = past_blanks(line, at);
-    if line.len() <= i {
-        return false;
-    }
-    line[i] == b'['
+    i < line.len() && line[i] == b'['
 }
 
 // Whether a mark stands first and bears no condition.
@@ -36,21 +30,13 @@ fn plain_mark(line: &[u8], mark: u8) -> bool
     ensures { result ≡ plain_mark mark line.now }
 {
     let i = past_blanks(line, 0);
-    if line.len() <= i {
-        return false;
-    }
-    if line[i] != mark {
-        return false;
-    }
-    !opens(line, i + 1)
+    i < line.len() && line[i] == mark && !opens(line, i + 1)
 }
 
 // A line that is skipped unread: marked `/` with the switch on, or `\` with the switch off.
 pub fn unread(line: &[u8], switch: bool) -> bool
     ensures { result ≡ unread switch line.now }
 {
-    if switch {
-        return plain_mark(line, b'/');
-    }
-    plain_mark(line, b'\\')
+    let mark = if switch { b'/' } else { b'\\' };
+    plain_mark(line, mark)
 }

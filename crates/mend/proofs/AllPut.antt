@@ -9,18 +9,19 @@ use borrow.Author.Tests.{ltb-true, ltb-false, lt-ltb, le-ltb, leb-true, le-leb}
 use lib.Dec.{ltb}
 use lib.ListN.{length, take, drop, length-append, length-drop, take-append-drop}
 use lib.Seq.{take_at, drop_at, drop-drop}
+use Rattle.std.specs.Prelude.{Ok, Err}
 use Rattle.grammar.specs.Grammar.{Line}
 use Rattle.grammar.specs.Derivation.{Form}
 use Rattle.texts.specs.Form.{Tells}
-use Rattle.texts.specs.Ends.{Piece, piece, pieces, joined}
+use Rattle.texts.specs.Ends.{Piece, pieces, joined}
 use Rattle.texts.proofs.Rightness.{model, model_tells}
 use Rattle.mend.specs.Mend.{Note, unlisted, mended, unmended, mend, mend_pieces, mend_text, Entry, listed, list_from, list_of, mend_into}
-use Rattle.mend.specs.Cutting.{part, Spans}
-use Rattle.mend.specs.Text.{is_listed, numbers_of, entered, laid_at, Entered, enters, enter, noting, Stand, stand, put_piece, put_pieces, standing, Fitting, RoomFor, Puts, PutsAll, leaves_text, MendsText}
-use Rattle.mend.specs.declared.cutting.Span.{Span}
+use Rattle.mend.specs.Text.{is_listed, numbers_of, entered, laid_at, Entered, enters, enter, noting, Stand, stand, put_piece, put_pieces, standing, Fitting, RoomFor, Puts, PutsAll, told, leaves_text, MendsText}
+use Rattle.mend.specs.Line.{no_space}
 use Rattle.mend.specs.declared.whole.Held.{Held}
 use Rattle.mend.proofs.Putting.{laid_front_long, laid_long, laid_twice}
-use Rattle.mend.proofs.Fitting.{none_left, end_long, first_long}
+use Rattle.mend.proofs.Fitting.{first_long}
+use Rattle.texts.proofs.Walking.{pieces_most}
 
 -- ---- an entry in its space
 -- where there is no room for one, there is none for more
@@ -133,26 +134,25 @@ module _ (tree : List ℕ → Form Line) where
       ∙ rw z (note_later (st.lines + 1) n (list_from tree (suc (st.lines + 1)) ps) st.used st.list h)
 
 -- ---- how far a text is put
--- at a place of the text: the spaces are as long as they were, there is room for the rest, and putting the rest comes to what putting all comes to
-pub record Put (text out₀ list₀ : List ℕ) (h : Held) (at : ℕ) (out list : List ℕ) : Type 0 where
-  pub within : at ≤ length text
+-- some lines are left: the spaces are as long as they were, there is room for the rest, and putting the rest comes to what putting all comes to
+pub record Put (text out₀ list₀ : List ℕ) (h : Held) (ps : List Piece) (out list : List ℕ) : Type 0 where
   pub outs : length out ≡ length out₀
   pub lists : length list ≡ length list₀
   pub used : h.used ≤ length list
-  pub lines : h.lines ≤ at
+  pub lines : h.lines + length ps ≤ length text
   pub listed : h.listed ≤ h.lines
-  pub room : (tree : List ℕ → Form Line) → Tells tree → h.filled + length (mend_text tree (drop at text)) ≤ length out
-  pub rest : (tree : List ℕ → Form Line) → Tells tree → put_pieces tree (pieces (drop at text)) (standing h out list) ≡ put_pieces tree (pieces text) (stand out₀ list₀ 0 0 0 0)
+  pub room : (tree : List ℕ → Form Line) → Tells tree → h.filled + length (joined (mend_pieces tree ps)) ≤ length out
+  pub rest : (tree : List ℕ → Form Line) → Tells tree → put_pieces tree ps (standing h out list) ≡ put_pieces tree (pieces text) (stand out₀ list₀ 0 0 0 0)
 
-pub nothing_put : (text out list : List ℕ) → Fitting text (length out) true → Put text out list (record { filled = 0; lines = 0; listed = 0; used = 0 }) 0 out list
+pub nothing_put : (text out list : List ℕ) → Fitting text (length out) true → Put text out list (record { filled = 0; lines = 0; listed = 0; used = 0 }) (pieces text) out list
+unfolding mend_text
 nothing_put text out list f = record {
-  within = omega arith;
   outs = refl;
   lists = refl;
   used = omega arith;
-  lines = omega arith;
+  lines = omega (arith, pieces_most text);
   listed = omega arith;
-  room = λ tree told. let k = leb-true (length (mend_text tree text)) (length out) (sym (f tree told)) in omega arith;
+  room = λ tree told. let k = leb-true (length (joined (mend_pieces tree (pieces text)))) (length out) (sym (f tree told)) in omega arith;
   rest = λ tree told. refl;
 }
 
@@ -175,47 +175,39 @@ one_most : (t : Bool) → cond t 1 0 ≤ 1
 one_most true = omega arith
 one_most false = omega arith
 
-module _ (text out₀ list₀ : List ℕ) (h : Held) (at : ℕ) (out list : List ℕ) (put : Put text out₀ list₀ h at out list) where
-  pub all_put : length text ≤ at → PutsAll text out₀ list₀ (standing h out list)
-  all_put k tree told = sym (ap (λ (x : List Piece). put_pieces tree x (standing h out list)) (none_left text at k)) ∙ put.rest tree told
-
-  module _ (r : Span) (s : Spans text at r) where
-    pub next_room : h.lines < 18446744073709551615 → RoomFor (part at r.end text) (part r.end r.next text) h (length out) (length list)
+module _ (text out₀ list₀ : List ℕ) (h : Held) (out list : List ℕ) where
+  module _ (p : Piece) (ps : List Piece) (put : Put text out₀ list₀ h (p ∷ ps) out list) where
+    pub next_room : h.lines < 18446744073709551615 → RoomFor p.line p.end h (length out) (length list)
     next_room l = record {
-      bytes = λ tree told. omega (arith, put.room tree told, first_long text at r s tree, end_long text at r s);
+      bytes = λ tree told. omega (arith, put.room tree told, first_long p ps tree);
       numbers = put.used;
       lines = l;
       listed = put.listed;
     }
 
-    pub next_put : (h' : Held) (out' list' : List ℕ) → Puts (piece (part at r.end text) (part r.end r.next text)) (standing h out list) (standing h' out' list')
-        → Put text out₀ list₀ h' r.next out' list'
-    next_put h' out' list' p =
+    pub next_put : (h' : Held) (out' list' : List ℕ) → Puts p (standing h out list) (standing h' out' list') → Put text out₀ list₀ h' ps out' list'
+    next_put h' out' list' puts =
         let m : Tells model = model_tells in
-        let l = (mend model (part at r.end text)).line in
-        let e = part r.end r.next text in
-        let n = (mend model (part at r.end text)).note in
-        let q = p model model_tells in
-        let fits : h.filled + length (l ++ e) ≤ length out = omega (arith, put.room model m, first_long text at r s model, end_long text at r s, length-append l e) in
+        let l = (mend model p.line).line in
+        let n = (mend model p.line).note in
+        let q = puts model model_tells in
+        let fits : h.filled + length (l ++ p.end) ≤ length out = omega (arith, put.room model m, first_long p ps model, length-append l p.end) in
         record {
-          within = s.within;
-          outs = ap (λ (x : Stand). length x.out) q ∙ laid_long out (l ++ e) h.filled fits ∙ put.outs;
+          outs = ap (λ (x : Stand). length x.out) q ∙ laid_long out (l ++ p.end) h.filled fits ∙ put.outs;
           lists = ap (λ (x : Stand). length x.list) q ∙ note_long (h.lines + 1) n h.used list put.used ∙ put.lists;
           used = subst (λ (x : Stand). x.used ≤ length x.list) (sym q) (note_within (h.lines + 1) n h.used list put.used);
-          lines = omega (arith, ap (λ (x : Stand). x.lines) q, put.lines, s.onward);
+          lines = omega (arith, ap (λ (x : Stand). x.lines) q, put.lines);
           listed = omega (arith, ap (λ (x : Stand). x.lines) q, ap (λ (x : Stand). x.listed) q, put.listed, one_most (is_listed n));
           room = λ tree told.
-              let l' = (mend tree (part at r.end text)).line in
-              let q' = p tree told in
-              omega (arith, put.room tree told, first_long text at r s tree, end_long text at r s, length-append l' e, ap (λ (x : Stand). x.filled) q', ap (λ (x : Stand). length x.out) q, laid_long out (l ++ e) h.filled fits);
-          rest = λ tree told.
-              ap (put_pieces tree (pieces (drop r.next text))) (p tree told)
-              ∙ sym (ap (λ (x : List Piece). put_pieces tree x (standing h out list)) s.cut) ∙ put.rest tree told;
+              let l' = (mend tree p.line).line in
+              let q' = puts tree told in
+              omega (arith, put.room tree told, first_long p ps tree, length-append l' p.end, ap (λ (x : Stand). x.filled) q', ap (λ (x : Stand). length x.out) q, laid_long out (l ++ p.end) h.filled fits);
+          rest = λ tree told. ap (put_pieces tree ps) (puts tree told) ∙ put.rest tree told;
         }
 
 -- ---- the whole text
 pub whole_put : (text out list : List ℕ) (h : Held) (out' list' : List ℕ) → Fitting text (length out) true → PutsAll text out list (standing h out' list')
-    → MendsText text out list (leaves_text (record { number = 0; filled = h.filled; lines = h.lines; listed = h.listed }) out' list')
+    → MendsText text out list (leaves_text (told (Ok (record { filled = h.filled; lines = h.lines; listed = h.listed }))) out' list')
 unfolding mend_into mend_text list_of
 whole_put text out list h out' list' f p tree told =
     let q = p tree told in
@@ -230,6 +222,6 @@ whole_put text out list h out' list' f p tree told =
     let e : list' ≡ entered (list_from tree 1 ps) list = ap (λ (x : Stand). x.list) q ∙ all_list tree ps st (omega arith) in
     (λ i. leaves_text (record { number = 0; filled = a i; lines = b i; listed = c i }) (d i) (e i)) ∙ rw (le-leb (length new) (length out) r)
 
-pub none_put : (text out list : List ℕ) → Fitting text (length out) false → MendsText text out list (leaves_text (record { number = 40; filled = 0; lines = 0; listed = 0 }) out list)
+pub none_put : (text out list : List ℕ) → Fitting text (length out) false → MendsText text out list (leaves_text (told (Err no_space)) out list)
 unfolding mend_into
 none_put text out list f tree told = rw (← f tree told)

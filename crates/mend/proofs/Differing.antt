@@ -1,28 +1,21 @@
 -- The first byte in which two lines differ, byte by byte; and that a repair changed a line where there is one.
 -- Assumes nothing.
-use mathlib.Core.Path.{◌≡◌, refl, sym}
-use mathlib.Core.Bool.{Bool, true, false, cond, ◌&&◌}
+use mathlib.Core.Path.{◌≡◌, refl, sym, ◌∙◌}
+use mathlib.Core.Bool.{Bool, true, false, cond, ◌&&◌, not}
 use mathlib.Core.List.{List, [], ◌∷◌}
-use Prim.Native.Nat.{ℕ, suc, ◌+◌, ◌≤◌, ◌<◌}
-use native.Mathlib.Numerals.{add-one}
+use Prim.Native.Nat.{ℕ, suc, ◌+◌, ◌≤◌, ◌<◌, min}
 use native.Mathlib.Omega.{arith}
-use borrow.Author.Tests.{eq-eqb, ne_eqb}
-use lib.Dec.{eqb}
-use lib.ListN.{length, get_or, drop, drop_of_length-le}
+use borrow.Author.Tests.{eq-eqb, ne_eqb, eqb-true, ltb-true, ltb-false}
+use lib.Dec.{eqb, ltb}
+use lib.ListN.{length, drop, drop_of_length-le}
 use lib.Seq.{drop-cons}
 use Rattle.mend.specs.Repairs.{lone_percent, emptied, remarked, unremarked, repaired}
 use Rattle.mend.specs.Mend.{same, differs, which}
-use Rattle.mend.specs.Line.{added_up}
+use Rattle.mend.specs.Line.{added_up, number_of, repairs_in}
 
 module _ (a b : List ℕ) (i k : ℕ) where
   pub differs_shorter : i < length a → length b ≤ i → k ≡ differs k (drop i a) (drop i b)
   differs_shorter h n = rw (drop-cons a i 0 h, drop_of_length-le b n)
-
-  pub differs_here : i < length a → i < length b → (get_or a i 0 ≡ get_or b i 0 → ⊥) → k ≡ differs k (drop i a) (drop i b)
-  differs_here h n e = rw (drop-cons a i 0 h, drop-cons b i 0 n, ne_eqb (get_or a i 0) (get_or b i 0) e)
-
-  pub differs_next : i < length a → i < length b → get_or a i 0 ≡ get_or b i 0 → differs (k + 1) (drop (i + 1) a) (drop (i + 1) b) ≡ differs k (drop i a) (drop i b)
-  differs_next h n e = rw (drop-cons a i 0 h, drop-cons b i 0 n, eq-eqb (get_or a i 0) (get_or b i 0) e, add-one i, add-one k)
 
   pub differs_longer : length a ≤ i → i < length b → k ≡ differs k (drop i a) (drop i b)
   differs_longer h n = rw (drop_of_length-le a h, drop-cons b i 0 n)
@@ -45,12 +38,62 @@ same_self : (s : List ℕ) → same s s ≡ true
 same_self [] = refl
 same_self (x ∷ s) = rw (eq-eqb x x refl) (same_self s)
 
+pub same_only : (a b : List ℕ) → same a b ≡ true → a ≡ b
+same_only [] [] e = refl
+same_only [] (y ∷ ys) e = cc
+same_only (x ∷ xs) [] e = cc
+same_only (x ∷ xs) (y ∷ ys) e = by (eqb x y) refl e (same_only xs ys)
+  where
+    by : (t : Bool) → eqb x y ≡ t → (t && same xs ys) ≡ true → (same xs ys ≡ true → xs ≡ ys) → x ∷ xs ≡ y ∷ ys
+    by true h k f = let p = eqb-true x y h in let q = f k in cc
+    by false h k f = cc
+
+-- two lines that are alike as far as the shorter goes
+pub differs_end : (a b : List ℕ) (i : ℕ) → i ≡ min (length a) (length b) → differs (i + 1) (drop i a) (drop i b) ≡ differs 1 a b → (a ≡ b → ⊥) → i + 1 ≡ differs 1 a b
+differs_end a b i m e n = by (ltb i (length a)) (ltb i (length b)) refl refl
+  where
+    by : (t u : Bool) → ltb i (length a) ≡ t → ltb i (length b) ≡ u → i + 1 ≡ differs 1 a b
+    by true true p q = absurd (omega (arith, ltb-true i (length a) p, ltb-true i (length b) q))
+    by true false p q = differs_shorter a b i (i + 1) (ltb-true i (length a) p) (ltb-false i (length b) q) ∙ e
+    by false true p q = differs_longer a b i (i + 1) (ltb-false i (length a) p) (ltb-true i (length b) q) ∙ e
+    by false false p q =
+        let z : 0 ≡ differs 1 a b = differs_none a b i (i + 1) (ltb-false i (length a) p) (ltb-false i (length b) q) ∙ e in
+        absurd (n (same_only a b (same_differs 0 a b ∙ rw (← z))))
+
 -- a line that is one `%` and blanks has a byte
 pub lone_some : (s : List ℕ) → true ≡ lone_percent s → (differs 1 s [] ≡ 1) × (same s [] ≡ false)
 lone_some [] e = let z : ◌≡◌ {A = ℕ} 0 1 = cc in absurd (omega arith)
 lone_some (b ∷ s) e = (refl, refl)
 
 -- which repairs changed a line that is not one `%` and blanks
+pub repairs_are : (s : List ℕ) → false ≡ lone_percent s
+    → record { percent = false; remark = not (same s (remarked 0 s)); nested = not (same (remarked 0 s) (repaired s)) } ≡ repairs_in (which s)
+unfolding which emptied unremarked
+repairs_are s h = rw (← h, same_self s) (by (same s (remarked 0 s)) (same (remarked 0 s) (repaired s)))
+  where
+    by : (t u : Bool) → record { percent = false; remark = not t; nested = not u } ≡ repairs_in (cond t (cond u [] (3 ∷ [])) (2 ∷ cond u [] (3 ∷ [])))
+    by true true = refl
+    by true false = refl
+    by false true = refl
+    by false false = refl
+
+-- the repairs as one number
+pub number_is : (s : List ℕ) → number_of (repairs_in (which s)) ≡ added_up (which s)
+unfolding which
+number_is s = by (same s (emptied s)) (same (emptied s) (unremarked s)) (same (unremarked s) (repaired s))
+  where
+    by : (t u v : Bool) → number_of (repairs_in (cond t (cond u (cond v [] (3 ∷ [])) (2 ∷ cond v [] (3 ∷ []))) (1 ∷ cond u (cond v [] (3 ∷ [])) (2 ∷ cond v [] (3 ∷ [])))))
+        ≡ added_up (cond t (cond u (cond v [] (3 ∷ [])) (2 ∷ cond v [] (3 ∷ []))) (1 ∷ cond u (cond v [] (3 ∷ [])) (2 ∷ cond v [] (3 ∷ []))))
+    by true true true = refl
+    by true true false = refl
+    by true false true = refl
+    by true false false = refl
+    by false true true = refl
+    by false true false = refl
+    by false false true = refl
+    by false false false = refl
+
+-- and by the bytes in which each changed the line: none where it did not
 pub added_is : (s : List ℕ) → false ≡ lone_percent s
     → cond (eqb (differs 1 s (remarked 0 s)) 0) 0 2 + cond (eqb (differs 1 (remarked 0 s) (repaired s)) 0) 0 4 ≡ added_up (which s)
 unfolding which emptied unremarked

@@ -6,8 +6,9 @@ use Prim.Native.Nat.{ℕ, suc, ◌+◌, ◌≤◌, ◌<◌}
 use native.Mathlib.Omega.{arith}
 use lib.ListN.{length, take, drop, length-append, length-drop}
 use lib.Seq.{take_at}
+use Rattle.std.specs.Prelude.{Some, None}
 use Rattle.mend.specs.Repairs.{remarked}
-use Rattle.mend.specs.Places.{remark_at, remark_bytes, remarked_at}
+use Rattle.mend.specs.Places.{remark_place, remark_bytes, remarked_at}
 use Rattle.mend.proofs.Passing.{remarked_none}
 use Rattle.mend.proofs.Placing.{put_is}
 
@@ -27,10 +28,10 @@ remark_long at i [] = refl
 remark_long at i (b ∷ s) = let k = remark_long at (suc i) s in omega arith
 
 module _ (s space f : List ℕ) (h : length s < length space) where
-  pub remark_front : (at : ℕ) → at ≡ remark_at 0 s → at < length s → f ≡ remarked_at at s
+  pub remark_front : (at : ℕ) → Some at ≡ remark_place 0 0 s → f ≡ remarked_at at s
       → (length s + 1 ≤ length (f ++ drop (length s + 1) space)) × (length (f ++ drop (length s + 1) space) ≡ length space) × (take (length s + 1) (f ++ drop (length s + 1) space) ≡ remarked 0 s)
-  remark_front at a k e = front_put space f (length s + 1) (omega arith) (ap length e ∙ remark_long at 0 s) (e ∙ ap (λ (x : ℕ). remarked_at x s) a ∙ put_is s (omega arith))
+  remark_front at a e = front_put space f (length s + 1) (omega arith) (ap length e ∙ remark_long at 0 s) (e ∙ (put_is s at a).1)
 
-  pub plain_front : (at : ℕ) → at ≡ remark_at 0 s → length s ≤ at → f ≡ s
+  pub plain_front : None ≡ remark_place 0 0 s → f ≡ s
       → (length s ≤ length (f ++ drop (length s) space)) × (length (f ++ drop (length s) space) ≡ length space) × (take (length s) (f ++ drop (length s) space) ≡ remarked 0 s)
-  plain_front at a k e = front_put space f (length s) (omega arith) (ap length e) (e ∙ sym (remarked_none 0 s (omega arith)))
+  plain_front a e = front_put space f (length s) (omega arith) (ap length e) (e ∙ sym (remarked_none 0 0 s (sym a)))

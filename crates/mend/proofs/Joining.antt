@@ -4,9 +4,9 @@ use mathlib.Core.Path.{◌≡◌, refl, sym, ap, ◌∙◌}
 use mathlib.Core.Bool.{Bool, true, false, cond}
 use mathlib.Core.List.{List, [], ◌∷◌, ◌++◌, append_assoc}
 use mathlib.Core.Logic.{◌⊎◌, inl, inr}
-use Prim.Native.Nat.{ℕ, zero, suc, ◌+◌, ◌-◌, ◌≤◌, ◌<◌}
+use Prim.Native.Nat.{ℕ, zero, suc, ◌+◌, ◌≤◌}
 use native.Mathlib.Omega.{arith}
-use borrow.Author.Tests.{eq-eqb, ne_eqb, eqb-true}
+use borrow.Author.Tests.{eqb-true}
 use lib.Dec.{eqb}
 use lib.ListN.{length, get_or, take, drop, take-append-drop}
 use lib.Seq.{take-suc}
@@ -15,21 +15,9 @@ use Rattle.grammar.specs.Grammar.{Line}
 use Rattle.grammar.specs.Derivation.{Form}
 use Rattle.rules.specs.Frames.{without_return}
 use Rattle.texts.specs.Ends.{Piece, piece, return_of, pieces_from, pieces, joined}
+use Rattle.texts.proofs.Cutting.{pieces_byte}
 use Rattle.mend.specs.Mend.{Note, unlisted, mended, unmended, mend, mend_pieces, mend_text, Entry, listed, list_from, list_of}
 use Rattle.mend.specs.Joining.{ended_to, ended_lines}
-
--- ---- one byte passed, from the end
-pub ended_here : (s : List ℕ) (i : ℕ) → 0 < i → get_or s (i - 1) 0 ≡ byte "\n" → i ≡ ended_to i s
-ended_here s zero h e = absurd (omega arith)
-ended_here s (suc k) h e =
-    let z : k ≡ suc k - 1 = omega arith in
-    rw (eq-eqb (get_or s k 0) (byte "\n") (ap (λ (x : ℕ). get_or s x 0) z ∙ e))
-
-pub ended_next : (s : List ℕ) (i : ℕ) → 0 < i → (get_or s (i - 1) 0 ≡ byte "\n" → ⊥) → ended_to (i - 1) s ≡ ended_to i s
-ended_next s zero h n = absurd (omega arith)
-ended_next s (suc k) h n =
-    let z : k ≡ suc k - 1 = omega arith in
-    ap (λ (x : ℕ). ended_to x s) (sym z) ∙ rw (ne_eqb (get_or s k 0) (byte "\n") (λ (e : get_or s k 0 ≡ byte "\n"). n (ap (λ (x : ℕ). get_or s x 0) (sym z) ∙ e)))
 
 pub ended_none : (s : List ℕ) (i : ℕ) → i ≤ 0 → 0 ≡ ended_to i s
 ended_none s zero h = refl
@@ -54,11 +42,6 @@ ended_fed s (suc i) h = by (eqb (get_or s i 0) (byte "\n")) refl (ended_fed s i 
     by : (t : Bool) → eqb (get_or s i 0) (byte "\n") ≡ t → Fed (take (ended_to i s) s) → Fed (take (cond t (suc i) (ended_to i s)) s)
     by true e f = inr (take i s, take-suc s i 0 (omega arith) ∙ ap (λ (b : ℕ). take i s ++ b ∷ []) (eqb-true (get_or s i 0) (byte "\n") e))
     by false e f = f
-
-pieces_byte : (l : List ℕ) (b : ℕ) (s : List ℕ)
-    → pieces_from l (b ∷ s) ≡ cond (eqb b (byte "\n")) (piece (without_return l) (return_of l ++ bytes "\n") ∷ pieces_from [] s) (pieces_from (l ++ b ∷ []) s)
-pieces_byte [] b s = refl
-pieces_byte (c ∷ l) b s = refl
 
 -- a line feed ends a line, whatever comes behind it
 parts : (l d rest : List ℕ) → pieces_from l (d ++ byte "\n" ∷ rest) ≡ pieces_from l (d ++ bytes "\n") ++ pieces_from [] rest

@@ -1,6 +1,6 @@
 -- A line's mended bytes laid into the text's space: by what the call for one line answers, they are what the definition says.
 -- Assumes nothing.
-use mathlib.Core.Path.{◌≡◌, refl, ap, ◌∙◌}
+use mathlib.Core.Path.{◌≡◌, refl, sym, ap, ◌∙◌}
 use mathlib.Core.Bool.{true, false}
 use mathlib.Core.List.{List, ◌++◌, append-nil}
 use Prim.Native.Nat.{ℕ, ◌+◌, ◌-◌, ◌≤◌}
@@ -8,25 +8,28 @@ use native.Mathlib.Omega.{arith}
 use borrow.Author.Tests.{le-leb}
 use lib.ListN.{length, take, drop, drop_of_length-le, length-drop, take-append-drop}
 use lib.Seq.{take_all, drop-drop}
+use Rattle.std.specs.Prelude.{Some, None, Result, Ok, Err}
 use Rattle.grammar.specs.Grammar.{Line}
 use Rattle.grammar.specs.Derivation.{Form}
 use Rattle.texts.specs.Form.{Tells, right}
 use Rattle.texts.proofs.Rightness.{right_only, model, model_tells}
 use Rattle.mend.specs.Repairs.{repaired}
 use Rattle.mend.specs.Mend.{Outcome, mend}
-use Rattle.mend.specs.Line.{Left, put, left_by, MendsLine}
+use Rattle.mend.specs.Line.{number_of, Left, leaves, put, left_by, MendsLine}
 use Rattle.mend.specs.Text.{Long, laid_at, Room, noted_by, LineLaid, lays_line, LaysLine}
 use Rattle.mend.specs.declared.line.Mended.{Mended}
-use Rattle.mend.specs.declared.line.Mended.TheVariants.{Already, Better, Beyond, NoSpace}
+use Rattle.mend.specs.declared.line.Mended.TheVariants.{Already, Better, Beyond}
+use Rattle.mend.specs.declared.line.NoSpace.{NoSpace}
 use Rattle.mend.proofs.Theorems.{Shape, already, better, beyond, shape}
 use Rattle.mend.proofs.LineMended.{better_is}
+use Rattle.mend.proofs.Differing.{number_is}
 
 -- how many bytes the answer says that a line has when it is mended
-abbrev pub length_by : Mended → List ℕ → ℕ
-length_by Already s = length s
-length_by (Better n i w) s = n
-length_by Beyond s = length s
-length_by NoSpace s = length s
+abbrev pub length_by : Result Mended NoSpace → List ℕ → ℕ
+length_by (Ok Already) s = length s
+length_by (Ok (Better n i w)) s = n
+length_by (Ok Beyond) s = length s
+length_by (Err e) s = length s
 
 module _ (tree : List ℕ → Form Line) (s out : List ℕ) (room : right tree s ≡ false → right tree (repaired s) ≡ true → length (repaired s) ≤ length out) where
   answer_long : (o : Outcome) → Shape tree s o → length_by (left_by o out).answer s ≡ length o.line
@@ -39,22 +42,18 @@ module _ (tree : List ℕ → Form Line) (s out : List ℕ) (room : right tree s
   told_long left e = ap (λ (x : Left). length_by x.answer s) e ∙ answer_long (mend tree s) (shape tree s)
 
 -- a space of 256 bytes holds every mended line
-pub long_told : (s out : List ℕ) (left : Left) → 256 ≤ length out → MendsLine s out left → Long s (length_by left.answer s)
-long_told s out left h m tree told = told_long tree s out (λ q f. omega (arith, (right_only told (repaired s) f).1)) left (m tree told)
+pub long_told : (s out now : List ℕ) (answer r : Result Mended NoSpace) → 256 ≤ length out → MendsLine s out (leaves answer now) → answer ≡ r → Long s (length_by r s)
+long_told s out now answer r h m e tree told =
+    ap (λ (x : Result Mended NoSpace). length_by x s) (sym e) ∙ told_long tree s out (λ q f. omega (arith, (right_only told (repaired s) f).1)) (leaves answer now) (m tree told)
 
 -- ---- bytes laid from a place on
 behind : (out : List ℕ) (from k : ℕ) → drop k (drop from out) ≡ drop (from + k) out
 behind out from k = drop-drop k from out
 
-pub lay_is : (out s x : List ℕ) (from to : ℕ) → to ≡ from + length s → x ≡ s → take from out ++ (x ++ drop (to - from) (drop from out)) ≡ laid_at out from s
-lay_is out s x from to e q =
-    let z : to - from ≡ length s = omega arith in
-    rw (q, z, behind out from (length s))
-
 -- ---- a line
-module _ (s out : List ℕ) (from : ℕ) (r : Room s from (length out)) where
+module _ (s out : List ℕ) (from : ℕ) (room : Room s from (length out)) where
   pub room_within : from ≤ length out
-  room_within = let k = r model model_tells in omega arith
+  room_within = let k = room model model_tells in omega arith
 
   -- the space from there on
   there : List ℕ
@@ -68,7 +67,7 @@ module _ (s out : List ℕ) (from : ℕ) (r : Room s from (length out)) where
 
   room_there : {tree : List ℕ → Form Line} → Tells tree → right tree s ≡ false → right tree (repaired s) ≡ true → length (repaired s) ≤ length (take (length out - from) (drop from out))
   room_there {tree} told q f =
-      let k = r tree told in
+      let k = room tree told in
       let b : length (mend tree s).line ≡ length (repaired s) = ap (λ (o : Outcome). length o.line) (better_is tree s q f) in
       omega (arith, there_long, room_within)
 
@@ -80,11 +79,11 @@ module _ (s out : List ℕ) (from : ℕ) (r : Room s from (length out)) where
   abbrev pub laid_by : Left → LineLaid
   laid_by left = by left.answer
     where
-      by : Mended → LineLaid
-      by Already = lays_line (record { filled = from + length s; listed = false; byte = 0; which = 0 }) (laid_at (afterwards left.out) from s)
-      by (Better n i w) = lays_line (record { filled = from + n; listed = true; byte = i; which = w }) (afterwards left.out)
-      by Beyond = lays_line (record { filled = from + length s; listed = true; byte = 0; which = 0 }) (laid_at (afterwards left.out) from s)
-      by NoSpace = lays_line (record { filled = from; listed = false; byte = 0; which = 0 }) (afterwards left.out)
+      by : Result Mended NoSpace → LineLaid
+      by (Ok Already) = lays_line (record { filled = from + length s; entry = None }) (laid_at (afterwards left.out) from s)
+      by (Ok (Better n i w)) = lays_line (record { filled = from + n; entry = Some (record { byte = i; which = number_of w }) }) (afterwards left.out)
+      by (Ok Beyond) = lays_line (record { filled = from + length s; entry = Some (record { byte = 0; which = 0 }) }) (laid_at (afterwards left.out) from s)
+      by (Err e) = lays_line (record { filled = from; entry = None }) (afterwards left.out)
 
   untouched : afterwards (take (length out - from) (drop from out)) ≡ out
   untouched = ap (λ (x : List ℕ). take from out ++ x) (take-append-drop (length out - from) (drop from out)) ∙ take-append-drop from out
@@ -96,15 +95,15 @@ module _ (s out : List ℕ) (from : ℕ) (r : Room s from (length out)) where
       → laid_by (left_by o (take (length out - from) (drop from out))) ≡ lays_line (noted_by o.note (from + length o.line)) (laid_at out from o.line)
   unfolding put
   laid_as told o (already q) = rw untouched
-  laid_as told o (better q f) = rw (le-leb (length (repaired s)) (length (take (length out - from) (drop from out))) (room_there told q f), stands (repaired s))
+  laid_as told o (better q f) = rw (le-leb (length (repaired s)) (length (take (length out - from) (drop from out))) (room_there told q f), stands (repaired s), number_is s)
   laid_as told o (beyond q f) = rw untouched
 
-  module _ (left : Left) (m : MendsLine s (take (length out - from) (drop from out)) left) where
-    pub left_long : Long s (length_by left.answer s)
-    left_long tree told = told_long tree s (take (length out - from) (drop from out)) (room_there told) left (m tree told)
+  module _ (now : List ℕ) (answer r : Result Mended NoSpace) (m : MendsLine s (take (length out - from) (drop from out)) (leaves answer now)) (e : answer ≡ r) where
+    pub left_within : from + length_by r s ≤ length out
+    left_within =
+        let k = room model model_tells in
+        let l : length_by answer s ≡ length (mend model s).line = told_long model s (take (length out - from) (drop from out)) (room_there model_tells) (leaves answer now) (m model model_tells) in
+        omega (arith, ap (λ (x : Result Mended NoSpace). length_by x s) e)
 
-    pub left_within : from + length_by left.answer s ≤ length out
-    left_within = let k = r model model_tells in omega (arith, left_long model model_tells)
-
-    pub laid_told : LaysLine s out from (laid_by left)
-    laid_told tree told = ap laid_by (m tree told) ∙ laid_as told (mend tree s) (shape tree s)
+    pub laid_told : LaysLine s out from (laid_by (leaves r now))
+    laid_told tree told = ap (λ (x : Result Mended NoSpace). laid_by (leaves x now)) (sym e) ∙ ap laid_by (m tree told) ∙ laid_as told (mend tree s) (shape tree s)

@@ -8,7 +8,6 @@ pub mod Differing
 pub mod Fronts
 pub mod LineMended
 pub mod Repairing
-pub mod Spanning
 pub mod Laying
 pub mod Listing
 pub mod Putting

@@ -9,18 +9,18 @@ use borrow.Author.Tests.{le-leb, lt-leb}
 use lib.Dec.{eqb}
 use lib.ListN.{length, take, drop, length-append}
 use lib.Seq.{length-take-le}
+use Rattle.std.specs.Prelude.{Ok, Err}
 use Rattle.grammar.specs.Bytes.{byte, bytes}
 use Rattle.grammar.specs.Grammar.{Line, line, unmarked, unlabelled}
-use Rattle.grammar.specs.Derivation.{strip, Derives, ByForm, Form}
-use Rattle.rules.specs.Promise.{panel}
+use Rattle.grammar.specs.Derivation.{strip, Derives, Form}
 use Rattle.texts.specs.Form.{Tells, is_derived, right}
 use Rattle.texts.proofs.Rightness.{right_is}
 use Rattle.mend.specs.Repairs.{lone_percent, emptied, square, depth, remarked, flattened, unremarked, repaired}
 use Rattle.mend.specs.Mend.{differs, which, outcome, mended, mend}
-use Rattle.mend.specs.Line.{added_up, leaves, put, left_by, Repaired}
-use Rattle.mend.specs.declared.line.Mended.TheVariants.{Already, Better, Beyond, NoSpace}
+use Rattle.mend.specs.Line.{repairs_in, no_space, leaves, put, left_by, Repaired}
+use Rattle.mend.specs.declared.line.Mended.TheVariants.{Already, Better, Beyond}
+use Rattle.mend.specs.declared.line.Repairs.{Repairs}
 use Rattle.mend.specs.declared.line.Repair.{Repair}
-use Rattle.mend.proofs.Judging.{form_right, form_wrong}
 use Rattle.mend.proofs.Differing.{lone_some}
 use Rattle.mend.proofs.Theorems.{right_stays, beyond_stays}
 
@@ -44,7 +44,7 @@ unfolding which repaired unremarked emptied
 which_emptied s h = rw (← h, (lone_some s h).1)
 
 pub emptied_left : {tree : List ℕ → Form Line} → Tells tree → (s out : List ℕ) → right tree s ≡ false → true ≡ lone_percent s
-    → leaves (Better 0 1 1) out ≡ left_by (mend tree s) out
+    → leaves (Ok (Better 0 1 (record { percent = true; remark = false; nested = false }))) out ≡ left_by (mend tree s) out
 unfolding put
 emptied_left {tree} told s out h e =
     let q : repaired s ≡ [] = emptied_is s e in
@@ -77,28 +77,28 @@ unfolding right
 long_wrong tree s h = rw (lt-leb (length s) 256 h) (and-false (is_derived (tree s)))
 
 module _ (tree : List ℕ → Form Line) (s out : List ℕ) (h : right tree s ≡ false) where
-  pub wrong_left : right tree (repaired s) ≡ false → leaves Beyond out ≡ left_by (mend tree s) out
+  pub wrong_left : right tree (repaired s) ≡ false → leaves (Ok Beyond) out ≡ left_by (mend tree s) out
   wrong_left k = rw (beyond_stays tree s h k)
 
   -- a text longer than 256 bytes
-  pub long_left : false ≡ lone_percent s → 256 < length s → leaves Beyond out ≡ left_by (mend tree s) out
+  pub long_left : false ≡ lone_percent s → 256 < length s → leaves (Ok Beyond) out ≡ left_by (mend tree s) out
   long_left e k =
       let a : length (repaired s) ≡ length (remarked 0 s) = ap length (repaired_is s e) ∙ flattened_long 0 (remarked 0 s) in
       wrong_left (long_wrong tree (repaired s) (omega (arith, remarked_long 0 s)))
 
   module _ (k : right tree (repaired s) ≡ true) where
-    pub no_space_left : length out < length (repaired s) → leaves NoSpace out ≡ left_by (mend tree s) out
+    pub no_space_left : length out < length (repaired s) → leaves (Err no_space) out ≡ left_by (mend tree s) out
     unfolding put
     no_space_left l = rw (better_is tree s h k, lt-leb (length (repaired s)) (length out) l)
 
-    pub better_left : (n i w : ℕ) (front : List ℕ) → front ≡ repaired s → length front ≡ n → n ≤ length out → i ≡ differs 1 s front → w ≡ added_up (which s)
-        → leaves (Better n i w) (front ++ drop n out) ≡ left_by (mend tree s) out
+    pub better_left : (n i : ℕ) (w : Repairs) (front : List ℕ) → front ≡ repaired s → length front ≡ n → n ≤ length out → i ≡ differs 1 s front → w ≡ repairs_in (which s)
+        → leaves (Ok (Better n i w)) (front ++ drop n out) ≡ left_by (mend tree s) out
     unfolding put
     better_left n i w front e l m f g =
         let z : length (repaired s) ≡ n = ap length (sym e) ∙ l in
         rw (better_is tree s h k, z, le-leb n (length out) m, f, g, e)
 
-pub already_left : (tree : List ℕ → Form Line) (s out : List ℕ) → right tree s ≡ true → leaves Already out ≡ left_by (mend tree s) out
+pub already_left : (tree : List ℕ → Form Line) (s out : List ℕ) → right tree s ≡ true → leaves (Ok Already) out ≡ left_by (mend tree s) out
 already_left tree s out h = rw (right_stays tree s h)
 
 -- ---- a line that is repaired in front of a space
@@ -109,17 +109,21 @@ module _ (s space : List ℕ) (r : Repair) (f : Repaired s r space) where
   repaired_long : length (repaired s) ≡ r.length
   repaired_long = ap length (sym f.text) ∙ space_long
 
-  module _ {tree : List ℕ → Form Line} (told : Tells tree) (out : List ℕ) (h : right tree s ≡ false) (k : ℕ) (g : ByForm (take r.length space) (panel (take r.length space)) k) where
-    pub still_wrong : (k ≡ 0 → ⊥) → leaves Beyond out ≡ left_by (mend tree s) out
-    still_wrong n = wrong_left tree s out h (ap (right tree) (sym f.text) ∙ form_wrong told (take r.length space) k g n)
+  module _ (tree : List ℕ → Form Line) (out : List ℕ) (h : right tree s ≡ false) (t : Bool) (g : t ≡ right tree (take r.length space)) where
+    pub still_wrong : t ≡ false → leaves (Ok Beyond) out ≡ left_by (mend tree s) out
+    still_wrong e = wrong_left tree s out h (ap (right tree) (sym f.text) ∙ sym g ∙ e)
 
-    now_right : k ≡ 0 → right tree (repaired s) ≡ true
-    now_right e = ap (right tree) (sym f.text) ∙ form_right told (take r.length space) k g e
+    now_right : t ≡ true → right tree (repaired s) ≡ true
+    now_right e = ap (right tree) (sym f.text) ∙ sym g ∙ e
 
-    pub no_room : k ≡ 0 → length out < r.length → leaves NoSpace out ≡ left_by (mend tree s) out
+    pub no_room : t ≡ true → length out < r.length → leaves (Err no_space) out ≡ left_by (mend tree s) out
     no_room e l = no_space_left tree s out h (now_right e) (omega (arith, repaired_long))
 
-    pub with_room : k ≡ 0 → r.length ≤ length out → (i : ℕ) → i ≡ differs 1 s (take r.length space) → (front : List ℕ) → front ≡ take r.length space
-        → leaves (Better r.length i r.which) (front ++ drop r.length out) ≡ left_by (mend tree s) out
+    -- a line that is right now is another
+    other : t ≡ true → s ≡ take r.length space → ⊥
+    other e q = let z : false ≡ true = sym h ∙ ap (right tree) q ∙ sym g ∙ e in cc
+
+    pub with_room : t ≡ true → r.length ≤ length out → (i : ℕ) → ((s ≡ take r.length space → ⊥) → i ≡ differs 1 s (take r.length space)) → (front : List ℕ) → front ≡ take r.length space
+        → leaves (Ok (Better r.length i r.repairs)) (front ++ drop r.length out) ≡ left_by (mend tree s) out
     with_room e l i d front q =
-        better_left tree s out h (now_right e) r.length i r.which front (q ∙ f.text) (ap length q ∙ space_long) l (d ∙ ap (differs 1 s) (sym q)) f.by
+        better_left tree s out h (now_right e) r.length i r.repairs front (q ∙ f.text) (ap length q ∙ space_long) l (d (other e) ∙ ap (differs 1 s) (sym q)) f.by

@@ -1,6 +1,6 @@
 -- What the call for a whole text promises: the list is numbers in a lent space, three to an entry.
 -- Assumes nothing.
-use Rattle.std.specs.Prelude.{◌≡◌, Bool, true, false, cond, List, [], ◌∷◌, ◌++◌, ℕ, ◌+◌, ◌-◌, ◌≤◌, ◌<◌, ltb, leb, length, take, drop}
+use Rattle.std.specs.Prelude.{◌≡◌, Option, Some, None, Result, Ok, Err, Bool, true, false, cond, List, [], ◌∷◌, ◌++◌, ℕ, ◌+◌, ◌-◌, ◌≤◌, ◌<◌, ltb, leb, length, take, drop}
 use Rattle.grammar.specs.Grammar.{Line}
 use Rattle.grammar.specs.Derivation.{Form}
 use Rattle.texts.specs.Form.{Tells}
@@ -8,6 +8,8 @@ use Rattle.texts.specs.Ends.{Piece, pieces}
 use Rattle.mend.specs.Mend.{Note, unlisted, mended, unmended, mend, mend_text, Entry, Written, mend_into}
 use Rattle.mend.specs.Line.{added_up}
 use Rattle.mend.specs.declared.whole.Tally.{Tally}
+use Rattle.mend.specs.declared.line.NoSpace.{NoSpace}
+use Rattle.mend.specs.declared.whole.Listed.{Listed}
 use Rattle.mend.specs.declared.whole.Noted.{Noted}
 use Rattle.mend.specs.declared.whole.Held.{Held}
 
@@ -35,13 +37,24 @@ abbrev pub entered : List Entry → List ℕ → List ℕ
 entered [] space = space
 entered (e ∷ es) space = cond (ltb (length space) 3) space (numbers_of e.number e.note ++ entered es (drop 3 space))
 
+-- what is told of a text, in numbers: 0, or 40 where the space is too small, and the counts, which are 0 then
+pub record Told : Type 0 where
+  pub number : ℕ
+  pub filled : ℕ
+  pub lines : ℕ
+  pub listed : ℕ
+
+abbrev pub told : Result Tally NoSpace → Told
+told (Ok t) = record { number = 0; filled = t.filled; lines = t.lines; listed = t.listed }
+told (Err e) = record { number = 40; filled = 0; lines = 0; listed = 0 }
+
 -- what a call leaves: its answer, and what the lent spaces hold then
 pub record TextLeft : Type 0 where
-  pub tally : Tally
+  pub tally : Told
   pub out : List ℕ
   pub list : List ℕ
 
-abbrev pub leaves_text : Tally → List ℕ → List ℕ → TextLeft
+abbrev pub leaves_text : Told → List ℕ → List ℕ → TextLeft
 leaves_text r out list = record { tally = r; out = out; list = list }
 
 abbrev pub lent : Written → List ℕ → TextLeft
@@ -62,7 +75,7 @@ abbrev pub Fitting : List ℕ → ℕ → Bool → Type 0
 Fitting text room r = (tree : List ℕ → Form Line) → Tells tree → r ≡ leb (length (mend_text tree text)) room
 
 -- bytes laid into a space from a place on
-abbrev pub laid_at : List ℕ → ℕ → List ℕ → List ℕ
+abbrev pub laid_at : {X : Type 0} → List X → ℕ → List X → List X
 laid_at out at s = take at out ++ (s ++ drop (at + length s) out)
 
 -- there is room for a line's mended bytes from a place on
@@ -70,8 +83,13 @@ abbrev pub Room : List ℕ → ℕ → ℕ → Type 0
 Room s from n = (tree : List ℕ → Form Line) → Tells tree → from + length (mend tree s).line ≤ n
 
 -- what is listed of a line, in numbers, and where its bytes end in the space
+abbrev pub entry_of : Note → Option Listed
+entry_of unlisted = None
+entry_of (mended i ks) = Some (record { byte = i; which = added_up ks })
+entry_of unmended = Some (record { byte = 0; which = 0 })
+
 abbrev pub noted_by : Note → ℕ → Noted
-noted_by n filled = record { filled = filled; listed = is_listed n; byte = byte_of n; which = which_of n }
+noted_by n filled = record { filled = filled; entry = entry_of n }
 
 pub record LineLaid : Type 0 where
   pub noted : Noted

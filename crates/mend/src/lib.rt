@@ -7,5 +7,5 @@ mod repairs;
 mod whole;
 
 pub use cutting::ended_lines;
-pub use line::{Mended, mend_line};
+pub use line::{Mended, NoSpace, Repairs, mend_line};
 pub use whole::{Tally, mend};

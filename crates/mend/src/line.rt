@@ -1,52 +1,75 @@
 // One line mended: its three repairs in their order, and what is listed of it.
-ghost use Rattle.std.specs.Prelude.{◌≡◌, false, cond, eqb, ◌+◌, ◌≤◌, ◌<◌, length, take};
-ghost use Rattle.grammar.specs.Derivation.{ByForm};
-ghost use Rattle.rules.specs.Promise.{panel};
+ghost use Rattle.std.specs.Prelude.{◌≡◌, false, not, List, ℕ, ◌+◌, ◌≤◌, ◌<◌, length, take};
+ghost use Rattle.grammar.specs.Grammar.{Line};
+ghost use Rattle.grammar.specs.Derivation.{Form};
+ghost use Rattle.texts.specs.Form.{Tells, right};
 ghost use Rattle.mend.specs.Repairs.{lone_percent, remarked};
-ghost use Rattle.mend.specs.Mend.{differs};
-ghost use Rattle.mend.specs.Line.{Repaired, leaves, MendsLine};
+ghost use Rattle.mend.specs.Mend.{same, differs};
+ghost use Rattle.mend.specs.Line.{number_of, Repaired, leaves, MendsLine};
 
-use super::repairs::{copy, flatten, lone_percent, put_remark, remark_at};
+use super::repairs::{flatten, lone_percent, put_remark, remark_at};
+
+// The space is too small for the mended text. Nothing is written.
+#[derive(Clone, Copy, PartialEq, Eq)]
+pub struct NoSpace;
+
+// Which of the three repairs changed a line: that of a line of one `%`, of a remark, and of nested comments.
+#[derive(Clone, Copy, PartialEq, Eq)]
+pub struct Repairs {
+    pub percent: bool,
+    pub remark: bool,
+    pub nested: bool,
+}
+
+impl Repairs {
+    // As one number of the list: 1 for the `%`, 2 for the remark, 4 for nested comments, added up.
+    pub(crate) fn number(self) -> usize
+        ensures { result ≡ number_of self }
+    {
+        usize::from(self.percent) + 2 * usize::from(self.remark) + 4 * usize::from(self.nested)
+    }
+}
 
 // What a line came to.
-#[derive(Clone, Copy)]
+#[derive(Clone, Copy, PartialEq, Eq)]
 pub enum Mended {
     // It was right. Nothing is written.
     Already,
-    // Its mended text, so many bytes, stands in front of the space. The first byte that differs, from 1; and which of
-    // the three repairs, added up: 1 for the `%`, 2 for the remark, 4 for nested comments.
-    Better(usize, usize, usize),
+    // Its mended text, so many bytes, stands in front of the space. The first byte that differs, from 1.
+    Better {
+        length: usize,
+        first: usize,
+        repairs: Repairs,
+    },
     // It is unmended. Nothing is written.
     Beyond,
-    // Its mended text is longer than the space. Nothing is written.
-    NoSpace,
 }
 
-// How many bytes a repaired line has, and which repairs changed it, added up likewise.
+// How many bytes a repaired line has, and which repairs changed it.
 #[derive(Clone, Copy)]
 struct Repair {
     length: usize,
-    which: usize,
+    repairs: Repairs,
 }
 
-// The number of the first byte in which two lines differ, from 1; or 0.
+// The number of the first byte in which two lines differ, from 1.
 fn first_difference(a: &[u8], b: &[u8]) -> usize
-    ensures { result ≡ differs 1 a.now b.now }
+    ensures { (a.now ≡ b.now → ⊥) → result ≡ differs 1 a.now b.now }
 {
-    let mut i: usize = 0;
-    while i < a.len() {
-        if b.len() <= i {
-            return i + 1;
-        }
+    let shorter = a.len().min(b.len());
+    for i in 0..shorter {
         if a[i] != b[i] {
             return i + 1;
         }
-        i += 1;
     }
-    if i < b.len() {
-        return i + 1;
-    }
-    0
+    shorter + 1
+}
+
+// Whether a repair changed a line.
+fn changed(before: &[u8], after: &[u8]) -> bool
+    ensures { result ≡ not (same before.now after.now) }
+{
+    before != after
 }
 
 // The line with its remark made a comment, in front of a space, and how many bytes it has then.
@@ -55,30 +78,16 @@ fn unremark(line: &[u8], space: &mut [u8]) -> usize
     ensures { (result ≤ length space.new) × (length space.new ≡ length space.old) × (take result space.new ≡ remarked 0 line.now) }
 {
     let n = line.len();
-    let at = remark_at(line);
-    if at < n {
-        let m = n + 1;
-        put_remark(line, at, &mut space[..m]);
-        return m;
-    }
-    copy(line, &mut space[..n]);
-    n
-}
-
-// Repairs added up, by the first byte in which each changed the line, or 0.
-fn added_up(remark: usize, nested: usize) -> usize
-    ensures { result ≡ cond (eqb remark 0) 0 2 + cond (eqb nested 0) 0 4 }
-{
-    if remark == 0 {
-        if nested == 0 {
-            return 0;
+    match remark_at(line) {
+        Some(at) => {
+            put_remark(line, at, &mut space[..n + 1]);
+            n + 1
         }
-        return 4;
+        None => {
+            space[..n].copy_from_slice(line);
+            n
+        }
     }
-    if nested == 0 {
-        return 2;
-    }
-    6
 }
 
 // A line that is not one `%` and blanks, repaired, in front of a space.
@@ -88,47 +97,59 @@ fn repair_line(line: &[u8], space: &mut [u8]) -> Repair
 {
     let mut plain = [0u8; 257];
     let n = unremark(line, &mut plain);
-    copy(&plain[..n], &mut space[..n]);
+    space[..n].copy_from_slice(&plain[..n]);
     flatten(&mut space[..n]);
-    let remark = first_difference(line, &plain[..n]);
-    let nested = first_difference(&plain[..n], &space[..n]);
     Repair {
         length: n,
-        which: added_up(remark, nested),
+        repairs: Repairs {
+            percent: false,
+            remark: changed(line, &plain[..n]),
+            nested: changed(&plain[..n], &space[..n]),
+        },
     }
 }
 
-// The number of the form check alone: where a form breaks is not asked here.
-fn form_number(line: &[u8]) -> u8
-    ensures { ByForm line.now (panel line.now) result }
+// Whether a line is of right form and has at most 256 bytes.
+fn is_right(line: &[u8]) -> bool
+    ensures { (tree : List ℕ → Form Line) → Tells tree → result ≡ right tree line.now }
 {
-    let said = reader::form(line);
-    said.number
+    reader::form(line).is_ok()
 }
 
 // One line mended into a space.
-pub fn mend_line(line: &[u8], out: &mut [u8]) -> Mended
+pub fn mend_line(line: &[u8], out: &mut [u8]) -> Result<Mended, NoSpace>
     ensures { MendsLine line.now out.old (leaves result out.new) }
 {
-    if form_number(line) == 0 {
-        return Mended::Already;
+    if is_right(line) {
+        return Ok(Mended::Already);
     }
     if lone_percent(line) {
-        return Mended::Better(0, 1, 1);
+        return Ok(Mended::Better {
+            length: 0,
+            first: 1,
+            repairs: Repairs {
+                percent: true,
+                remark: false,
+                nested: false,
+            },
+        });
     }
     if 256 < line.len() {
-        return Mended::Beyond;
+        return Ok(Mended::Beyond);
     }
     let mut text = [0u8; 257];
     let repaired = repair_line(line, &mut text);
     let n = repaired.length;
-    if form_number(&text[..n]) != 0 {
-        return Mended::Beyond;
+    if !is_right(&text[..n]) {
+        return Ok(Mended::Beyond);
     }
     if out.len() < n {
-        return Mended::NoSpace;
+        return Err(NoSpace);
     }
-    copy(&text[..n], &mut out[..n]);
-    let first = first_difference(line, &text[..n]);
-    Mended::Better(n, first, repaired.which)
+    out[..n].copy_from_slice(&text[..n]);
+    Ok(Mended::Better {
+        length: n,
+        first: first_difference(line, &text[..n]),
+        repairs: repaired.repairs,
+    })
 }

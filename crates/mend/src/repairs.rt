@@ -1,20 +1,21 @@
 // The three repairs of a line, found by their places and put byte by byte.
-ghost use Rattle.std.specs.Prelude.{◌≡◌, ◌+◌, ◌≤◌, ◌<◌, length, drop};
+ghost use Rattle.std.specs.Prelude.{◌≡◌, not, ◌+◌, ◌≤◌, ◌<◌, length, drop};
+ghost use Rattle.std.specs.List.{position, list_all};
 ghost use Rattle.grammar.specs.Derivation.{blank};
 ghost use Rattle.mend.specs.Repairs.{square, depth, closed, flattened, lone_percent};
-ghost use Rattle.mend.specs.Places.{turned_by, starts_remark, remark_at, blanks_in, remark_byte, remarked_at};
+ghost use Rattle.mend.specs.Places.{turned_by, starts_remark, remark_place, remark_byte, remarked_at};
+
+use text::bytes::is_blank;
 
 // A parenthesis turned to a square bracket.
 fn square(b: u8) -> u8
     ensures { result ≡ square b }
 {
-    if b == b'(' {
-        return b'[';
+    match b {
+        b'(' => b'[',
+        b')' => b']',
+        _ => b,
     }
-    if b == b')' {
-        return b']';
-    }
-    b
 }
 
 // How many comments are open after a byte.
@@ -22,16 +23,11 @@ fn depth(d: usize, b: u8) -> usize
     requires { d < 18446744073709551615 }
     ensures { (result ≡ depth d b) × (result ≤ d + 1) }
 {
-    if b == b'(' {
-        return d + 1;
+    match b {
+        b'(' => d + 1,
+        b')' => d.saturating_sub(1),
+        _ => d,
     }
-    if b == b')' {
-        if d == 0 {
-            return 0;
-        }
-        return d - 1;
-    }
-    d
 }
 
 // Whether the outermost of d open comments is closed from a place on.
@@ -39,14 +35,12 @@ fn closed(line: &[u8], from: usize, d: usize) -> bool
     requires { d ≤ from }
     ensures { result ≡ closed d (drop from line.now) }
 {
-    let mut i = from;
     let mut e = d;
-    while i < line.len() {
+    for i in from..line.len() {
         if e == 0 {
             return true;
         }
         e = depth(e, line[i]);
-        i += 1;
     }
     e == 0
 }
@@ -56,31 +50,23 @@ fn turned(line: &[u8], next: usize, d: usize, e: usize, b: u8) -> u8
     requires { e ≤ next }
     ensures { result ≡ turned_by d e (drop next line.now) b }
 {
-    if d == 0 {
-        return b;
+    if d > 0 && e > 0 && closed(line, next, e) {
+        square(b)
+    } else {
+        b
     }
-    if e == 0 {
-        return b;
-    }
-    if closed(line, next, e) {
-        return square(b);
-    }
-    b
 }
 
 // Inner parentheses of closed nested comments turned to square brackets, in place.
 pub(crate) fn flatten(line: &mut [u8])
     ensures { line.new ≡ flattened 0 line.old }
 {
-    let mut i: usize = 0;
-    let mut d: usize = 0;
-    while i < line.len() {
+    let mut d = 0;
+    for i in 0..line.len() {
         let b = line[i];
         let e = depth(d, b);
-        let x = turned(line, i + 1, d, e, b);
-        line[i] = x;
+        line[i] = turned(line, i + 1, d, e, b);
         d = e;
-        i += 1;
     }
 }
 
@@ -88,70 +74,45 @@ pub(crate) fn flatten(line: &mut [u8])
 fn starts_remark(d: usize, b: u8) -> bool
     ensures { result ≡ starts_remark d b }
 {
-    if d == 0 {
-        return b == b';';
-    }
-    false
+    d == 0 && b == b';'
 }
 
-// The place of the `;` that starts a remark, or the line's length.
-pub(crate) fn remark_at(line: &[u8]) -> usize
-    ensures { result ≡ remark_at 0 line.now }
+// The place of the `;` that starts a remark, if there is one.
+pub(crate) fn remark_at(line: &[u8]) -> Option<usize>
+    ensures { result ≡ remark_place 0 0 line.now }
 {
-    let mut i: usize = 0;
-    let mut d: usize = 0;
-    while i < line.len() {
-        let b = line[i];
-        if starts_remark(d, b) {
-            return i;
+    let mut d = 0;
+    for i in 0..line.len() {
+        if starts_remark(d, line[i]) {
+            return Some(i);
         }
-        d = depth(d, b);
-        i += 1;
+        d = depth(d, line[i]);
     }
-    i
+    None
 }
 
-// A space or a tab.
-fn blank(b: u8) -> bool
-    ensures { result ≡ blank b }
+// The place of the first byte that is no blank, if there is one.
+fn first_unblank(line: &[u8]) -> Option<usize>
+    ensures { result ≡ position (λ b. not (blank b)) line.now }
 {
-    if b == b' ' {
-        return true;
-    }
-    b == b'\t'
+    line.iter().position(|b| !is_blank(*b))
 }
 
-// The first place from one on that holds no blank, or the line's end.
-fn past_blanks(line: &[u8], from: usize) -> usize
-    ensures { result ≡ from + blanks_in (drop from line.now) }
+// Whether all bytes are blanks.
+fn all_blank(line: &[u8]) -> bool
+    ensures { result ≡ list_all blank line.now }
 {
-    let mut i = from;
-    while i < line.len() {
-        if blank(line[i]) {
-            i += 1;
-        } else {
-            return i;
-        }
-    }
-    i
+    line.iter().all(|b| is_blank(*b))
 }
 
 // Whether a line is one `%` and blanks.
 pub(crate) fn lone_percent(line: &[u8]) -> bool
     ensures { result ≡ lone_percent line.now }
 {
-    let i = past_blanks(line, 0);
-    if line.len() <= i {
-        return false;
+    match first_unblank(line) {
+        Some(at) => line[at] == b'%' && all_blank(&line[at + 1..]),
+        None => false,
     }
-    if line[i] != b'%' {
-        return false;
-    }
-    let end = past_blanks(line, i + 1);
-    if end < line.len() {
-        return false;
-    }
-    true
 }
 
 // A line with its remark made a comment, put into a space that is longer by one.
@@ -159,13 +120,10 @@ pub(crate) fn put_remark(line: &[u8], at: usize, out: &mut [u8])
     requires { (at < length line.now) × (length out.old ≡ length line.now + 1) }
     ensures { out.new ≡ remarked_at at line.now }
 {
-    let n = line.len();
-    let mut i: usize = 0;
-    while i < n {
+    for i in 0..line.len() {
         out[i] = remark_byte(at, i, line[i]);
-        i += 1;
     }
-    out[n] = b')';
+    out[line.len()] = b')';
 }
 
 // The byte that comes out at place i of a line whose remark starts at a place.
@@ -173,22 +131,10 @@ fn remark_byte(at: usize, i: usize, b: u8) -> u8
     ensures { result ≡ remark_byte at i b }
 {
     if i < at {
-        return b;
-    }
-    if i == at {
-        return b'(';
-    }
-    square(b)
-}
-
-// A line put into a space of its length.
-pub(crate) fn copy(line: &[u8], out: &mut [u8])
-    requires { length out.old ≡ length line.now }
-    ensures { out.new ≡ line.now }
-{
-    let mut i: usize = 0;
-    while i < line.len() {
-        out[i] = line[i];
-        i += 1;
+        b
+    } else if i == at {
+        b'('
+    } else {
+        square(b)
     }
 }

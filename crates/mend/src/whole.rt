@@ -1,18 +1,14 @@
 // Whole texts mended: each line anew, its end kept, into a lent space, and the list into another.
 ghost use Rattle.std.specs.Prelude.{◌≡◌, true, [], ◌∷◌, ◌+◌, ◌≤◌, ◌<◌, length};
 ghost use Rattle.texts.specs.Ends.{piece};
-ghost use Rattle.mend.specs.Text.{Long, Fitting, laid_at, Room, lays_line, LaysLine, enters, enter as entering, standing, RoomFor, Puts, PutsAll, leaves_text, MendsText};
+ghost use Rattle.mend.specs.Text.{Long, Fitting, laid_at, Room, lays_line, LaysLine, enters, enter as entering, standing, RoomFor, Puts, PutsAll, told, leaves_text, MendsText};
 
-use super::cutting::line_at;
-use super::line::{Mended, mend_line};
-use super::repairs::copy;
+use super::line::{Mended, NoSpace, mend_line};
+use texts::Pieces;
 
-// What became of a text, laid out as C has it too: crate mend_c hands it on.
-#[repr(C)]
-#[derive(Clone, Copy)]
+// What became of a text.
+#[derive(Clone, Copy, PartialEq, Eq)]
 pub struct Tally {
-    // 0, or 40 where the space is too small for the mended text: then nothing is written, and the rest is 0.
-    pub number: u32,
     // How many bytes of the space are filled.
     pub filled: usize,
     // How many lines the text has.
@@ -21,13 +17,19 @@ pub struct Tally {
     pub listed: usize,
 }
 
-// Where a line's mended bytes end in the space, whether it is listed, and the numbers to be listed.
+// What is listed of a line behind its number: the first byte that differs, from 1, and the repairs as one number; both
+// are 0 where the line is unmended.
+#[derive(Clone, Copy)]
+struct Listed {
+    byte: usize,
+    which: usize,
+}
+
+// Where a line's mended bytes end in the space, and what is listed of it, if anything.
 #[derive(Clone, Copy)]
 struct Noted {
     filled: usize,
-    listed: bool,
-    byte: usize,
-    which: usize,
+    entry: Option<Listed>,
 }
 
 // How far a text is put: bytes filled, lines put, lines listed, numbers of the list used.
@@ -44,11 +46,12 @@ fn mended_length(line: &[u8]) -> usize
     ensures { Long line.now result }
 {
     let mut space = [0u8; 256];
+    // An arm for each answer: in an arm for several the check names nothing to prove by.
     match mend_line(line, &mut space) {
-        Mended::Already => line.len(),
-        Mended::Better(n, _, _) => n,
-        Mended::Beyond => line.len(),
-        Mended::NoSpace => line.len(),
+        Ok(Mended::Better { length, .. }) => length,
+        Ok(Mended::Already) => line.len(),
+        Ok(Mended::Beyond) => line.len(),
+        Err(NoSpace) => line.len(),
     }
 }
 
@@ -56,32 +59,27 @@ fn mended_length(line: &[u8]) -> usize
 fn fits(text: &[u8], room: usize) -> bool
     ensures { Fitting text.now room result }
 {
-    let mut at = 0;
     let mut left = room;
-    while at < text.len() {
-        let span = line_at(text, at);
-        let end = span.end;
-        let next = span.next;
-        let n = mended_length(&text[at..end]);
+    for piece in Pieces(text) {
+        let n = mended_length(piece.line);
         if left < n {
             return false;
         }
-        if left - n < next - end {
+        if left - n < piece.end.len() {
             return false;
         }
-        left = left - n - (next - end);
-        at = next;
+        left = left - n - piece.end.len();
     }
     true
 }
 
-// Bytes laid into a space from a place on, and the place behind them.
-fn lay(bytes: &[u8], out: &mut [u8], from: usize) -> usize
-    requires { from + length bytes.now ≤ length out.old }
-    ensures { (result ≡ from + length bytes.now) × (out.new ≡ laid_at out.old from bytes.now) }
+// Bytes or numbers laid into a space from a place on, and the place behind them.
+fn lay<T: Copy>(items: &[T], out: &mut [T], from: usize) -> usize
+    requires { from + length items.now ≤ length out.old }
+    ensures { (result ≡ from + length items.now) × (out.new ≡ laid_at out.old from items.now) }
 {
-    let to = from + bytes.len();
-    copy(bytes, &mut out[from..to]);
+    let to = from + items.len();
+    out[from..to].copy_from_slice(items);
     to
 }
 
@@ -91,48 +89,47 @@ fn lay_line(line: &[u8], out: &mut [u8], from: usize) -> Noted
     ensures { LaysLine line.now out.old from (lays_line result out.new) }
 {
     match mend_line(line, &mut out[from..]) {
-        Mended::Better(n, byte, which) => Noted {
-            filled: from + n,
-            listed: true,
-            byte,
-            which,
+        Ok(
+            Mended::Better {
+                length,
+                first,
+                repairs,
+            },
+        ) => Noted {
+            filled: from + length,
+            entry: Some(Listed {
+                byte: first,
+                which: repairs.number(),
+            }),
         },
-        Mended::Already => Noted {
+        Ok(Mended::Already) => Noted {
             filled: lay(line, out, from),
-            listed: false,
-            byte: 0,
-            which: 0,
+            entry: None,
         },
-        Mended::Beyond => Noted {
+        Ok(Mended::Beyond) => Noted {
             filled: lay(line, out, from),
-            listed: true,
-            byte: 0,
-            which: 0,
+            entry: Some(Listed { byte: 0, which: 0 }),
         },
-        Mended::NoSpace => Noted {
+        Err(NoSpace) => Noted {
             filled: from,
-            listed: false,
-            byte: 0,
-            which: 0,
+            entry: None,
         },
     }
 }
 
 // An entry of the list, where there is room for it, and how many numbers are used then.
-fn enter(list: &mut [usize], used: usize, line: usize, byte: usize, which: usize) -> usize
+fn enter(list: &mut [usize], used: usize, line: usize, entry: Listed) -> usize
     requires { used ≤ length list.old }
-    ensures { enters result list.new ≡ entering list.old used (line ∷ byte ∷ which ∷ []) }
+    ensures { enters result list.new ≡ entering list.old used (line ∷ entry.byte ∷ entry.which ∷ []) }
 {
     if list.len() - used < 3 {
         return used;
     }
-    list[used] = line;
-    list[used + 1] = byte;
-    list[used + 2] = which;
-    used + 3
+    lay(&[line, entry.byte, entry.which], list, used)
 }
 
-// One line more is put, with its end.
+// One line more is put, with its end. The spaces stay parameters: a struct of both would be taken apart at once, since
+// a line is laid into the one and its entry into the other.
 fn put_next(line: &[u8], end: &[u8], held: Held, out: &mut [u8], list: &mut [usize]) -> Held
     requires { RoomFor line.now end.now held (length out.old) (length list.old) }
     ensures { Puts (piece line.now end.now) (standing held out.old list.old) (standing result out.new list.new) }
@@ -140,19 +137,19 @@ fn put_next(line: &[u8], end: &[u8], held: Held, out: &mut [u8], list: &mut [usi
     let lines = held.lines + 1;
     let noted = lay_line(line, out, held.filled);
     let filled = lay(end, out, noted.filled);
-    if noted.listed {
-        return Held {
+    match noted.entry {
+        Some(entry) => Held {
             filled,
             lines,
             listed: held.listed + 1,
-            used: enter(list, held.used, lines, noted.byte, noted.which),
-        };
-    }
-    Held {
-        filled,
-        lines,
-        listed: held.listed,
-        used: held.used,
+            used: enter(list, held.used, lines, entry),
+        },
+        None => Held {
+            filled,
+            lines,
+            listed: held.listed,
+            used: held.used,
+        },
     }
 }
 
@@ -167,13 +164,8 @@ fn put_lines(text: &[u8], out: &mut [u8], list: &mut [usize]) -> Held
         listed: 0,
         used: 0,
     };
-    let mut at = 0;
-    while at < text.len() {
-        let span = line_at(text, at);
-        let end = span.end;
-        let next = span.next;
-        held = put_next(&text[at..end], &text[end..next], held, out, list);
-        at = next;
+    for piece in Pieces(text) {
+        held = put_next(piece.line, piece.end, held, out, list);
     }
     held
 }
@@ -181,22 +173,16 @@ fn put_lines(text: &[u8], out: &mut [u8], list: &mut [usize]) -> Held
 // A whole text mended. Of the list as many whole entries are written as its space has room for, three numbers each: the
 // line and the first byte that differs, both from 1, and which of the three repairs, added up; the byte and the
 // repairs are 0 where the line is unmended.
-pub fn mend(text: &[u8], out: &mut [u8], list: &mut [usize]) -> Tally
-    ensures { MendsText text.now out.old list.old (leaves_text result out.new list.new) }
+pub fn mend(text: &[u8], out: &mut [u8], list: &mut [usize]) -> Result<Tally, NoSpace>
+    ensures { MendsText text.now out.old list.old (leaves_text (told result) out.new list.new) }
 {
-    if fits(text, out.len()) {
-        let held = put_lines(text, out, list);
-        return Tally {
-            number: 0,
-            filled: held.filled,
-            lines: held.lines,
-            listed: held.listed,
-        };
+    if !fits(text, out.len()) {
+        return Err(NoSpace);
     }
-    Tally {
-        number: 40,
-        filled: 0,
-        lines: 0,
-        listed: 0,
-    }
+    let held = put_lines(text, out, list);
+    Ok(Tally {
+        filled: held.filled,
+        lines: held.lines,
+        listed: held.listed,
+    })
 }

@@ -8,7 +8,7 @@ use native.Mathlib.Numerals.{add-one}
 use native.Mathlib.Omega.{arith}
 use lib.IntN.{ℤ}
 use lib.ListN.{length, take, drop, set, take-append-drop, length-append, length-drop}
-use lib.Seq.{paste, length-take-le, drop-drop, take_at, drop_at, take_all, take-suc-set, drop-set-lt, append_snoc}
+use lib.Seq.{length-take-le, drop-drop, take_at, drop_at, take-suc-set, drop-set-lt}
 use Rattle.rules.specs.Reach.{at}
 use Rattle.rules.specs.Commands.{eight, numbers, written}
 use Rattle.rules.specs.Promise.{over}
@@ -47,19 +47,21 @@ laid_start : (out zs : List ℤ) → laid out 0 zs ≡ over zs out
 unfolding laid
 laid_start out zs = rw (zero-add (length zs)) refl
 
--- a number stored at a place, and others copied behind it
-pub laid_copied : (out zs : List ℤ) (at : ℕ) (z : ℤ) → at < length out → paste (set out at z) (at + 1) zs (length zs) ≡ laid out at (z ∷ zs)
+-- a number stored at a place, and others put in the place of those behind it
+pub laid_behind : (out zs : List ℤ) (at n : ℕ) (z : ℤ) → at < length out → n ≡ length zs → take (at + 1) (set out at z) ++ (zs ++ drop n (drop (at + 1) (set out at z))) ≡ laid out at (z ∷ zs)
 unfolding laid
-laid_copied out zs at z h =
-    let e : suc at + length zs ≡ at + suc (length zs) = omega arith in
+laid_behind out zs at n z h e =
+    let k : suc at + length zs ≡ at + suc (length zs) = omega arith in
     rw (
+      e,
       add-one at,
       take-suc-set out at z h,
+      drop-drop (length zs) (suc at) (set out at z),
       drop-set-lt (suc at + length zs) out at z (omega arith),
-      take_all (length zs) zs (omega arith),
-      append_snoc (take at out) z zs,
+      append_assoc (take at out) (z ∷ []),
+      append_assoc (take at out) (z ∷ zs),
     )
-    (ap (λ (n : ℕ). take at out ++ (z ∷ zs) ++ drop n out) e)
+    (ap (λ (n : ℕ). take at out ++ (z ∷ (zs ++ drop n out))) k)
 
 -- ---- the numbers of a place and of a centre, one by one
 pub three : (ls : List Length) → length ls ≡ 3 → (at ls 0).0 ∷ (at ls 1).0 ∷ (at ls 2).0 ∷ [] ≡ numbers ls

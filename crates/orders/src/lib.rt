@@ -1,107 +1,87 @@
 // The commands of an accepted line: what is asked for, in document 01's order, counted and then written.
 #![tactic(auto)]
 
-ghost use Rattle.std.specs.Prelude.{◌≡◌, cond, [], ◌∷◌, ◌++◌, ◌*◌, ◌+◌, ◌/◌, ◌≤◌, eqb, ltb, pos, length};
-ghost use Rattle.rules.specs.Block.{has};
+ghost use Rattle.std.specs.Prelude.{◌≡◌, Option, cond, [], ◌∷◌, ◌++◌, ◌*◌, ◌+◌, ◌/◌, ◌≤◌, eqb, ltb, pos, length};
+ghost use Rattle.rules.specs.Steps.{coolant_of, spindle_of};
 ghost use Rattle.rules.specs.Commands.{command, eight, numbers, written};
 ghost use Rattle.rules.specs.Promise.{over};
-ghost use Rattle.orders.specs.Orders.{asked, order, orders_of, written_by};
+ghost use Rattle.orders.specs.Orders.{asked, orders_of, written_by};
 ghost use Rattle.orders.specs.Laying.{laid};
 
-use rules::{Block, Code, Command, Length, Value};
+use rules::{Block, Command, Length, Value};
 
-// A command, and whether the line asks for it.
-#[derive(Clone, Copy)]
-pub struct Order {
-    pub asked: bool,
-    pub command: Command,
-}
-
-// How many commands were written, or that the space is too short for them.
-#[derive(Clone, Copy)]
-pub enum Written {
-    Commands(u64),
-    NoRoom,
-}
-
-// The line's orders: F, S, T, M6, spindle, coolant, G4, the move, stop.
-pub fn orders_of(b: Block, feed: Length, speed: Value, tool: u8, moving: Order) -> [Order; 9]
+// The commands that the line asks for, each in its place: F, S, T, M6, spindle, coolant, G4, the move, stop.
+#[tactic(auto, unfolding(crate::specs::Orders::orders_of))]
+pub fn orders_of(
+    b: Block,
+    feed: Length,
+    speed: Value,
+    tool: u8,
+    moving: Option<Command>,
+) -> [Option<Command>; 9]
     ensures { result ≡ orders_of b feed speed tool moving }
 {
-    let pause = b.p.value;
+    let pause = b.p.unwrap_or(Value(0));
     [
-        with_field(b.f.given, 1, feed.0),
-        with_field(b.s.given, 2, speed.0),
-        with_code(b.t.given, 3, tool as u16),
-        with_field(b.change.given, 4, 0),
-        with_code(b.spindle.given, 5, one_or_two(b.spindle.code, 3, 4)),
-        with_code(b.coolant.given, 6, one_or_two(b.coolant.code, 7, 8)),
-        with_field(has(b.once, 40), 7, pause.0),
+        b.f.map(|_| with_field(1, feed.0)),
+        b.s.map(|_| with_field(2, speed.0)),
+        b.t.map(|_| with_code(3, tool as u16)),
+        b.change.map(|_| with_field(4, 0)),
+        b.spindle.map(|code| with_code(5, spindle_of(code) as u16)),
+        b.coolant.map(|code| with_code(6, coolant_of(code) as u16)),
+        (b.once == Some(40)).then_some(with_field(7, pause.0)),
         moving,
-        with_code(b.stop.given, 11, b.stop.code),
+        b.stop.map(|code| with_code(11, code)),
     ]
 }
 
-// An order for a command whose fields behind the first are 0.
-fn with_field(asked: bool, kind: u8, field: i64) -> Order
-    ensures { result ≡ order asked (command kind (field ∷ [])) }
+// A command whose fields behind the first are 0.
+fn with_field(kind: u8, field: i64) -> Command
+    ensures { result ≡ command kind (field ∷ []) }
 {
-    let command = Command {
+    Command {
         kind: kind,
         fields: [field, 0, 0, 0, 0, 0, 0],
-    };
-    Order {
-        asked: asked,
-        command: command,
     }
 }
 
-fn with_code(asked: bool, kind: u8, code: u16) -> Order
-    ensures { result ≡ order asked (command kind (pos code ∷ [])) }
+fn with_code(kind: u8, code: u16) -> Command
+    ensures { result ≡ command kind (pos code ∷ []) }
 {
-    with_field(asked, kind, code as i64)
+    with_field(kind, code as i64)
 }
 
-// 1 for the first of two codes, 2 for the second, 0 for any other.
-fn one_or_two(code: u16, first: u16, second: u16) -> u16
-    ensures { result ≡ cond (eqb code first) 1 (cond (eqb code second) 2 0) }
+// The spindle's state by M3, M4 and M5.
+pub fn spindle_of(code: u16) -> u8
+    ensures { result ≡ spindle_of code }
 {
-    if code == first {
-        return 1;
+    match code {
+        3 => 1,
+        4 => 2,
+        _ => 0,
     }
-    if code == second {
-        return 2;
-    }
-    0
 }
 
-// That code is on the line.
-fn has(c: Code, code: u16) -> bool
-    ensures { result ≡ has c code }
+// The coolant that M7, M8 and M9 ask for.
+fn coolant_of(code: u16) -> u8
+    ensures { result ≡ coolant_of code }
 {
-    if c.given {
-        return c.code == code;
+    match code {
+        7 => 1,
+        8 => 2,
+        _ => 0,
     }
-    false
 }
 
 // A rapid or a feed move.
 pub fn straight(motion: u16, to: [Length; 3]) -> Command
     ensures { result ≡ command (cond (eqb motion 0) 8 9) (numbers to) }
 {
-    let x = to[0];
-    let y = to[1];
-    let z = to[2];
-    let fields = [x.0, y.0, z.0, 0, 0, 0, 0];
-    if motion == 0 {
-        return Command {
-            kind: 8,
-            fields: fields,
-        };
-    }
+    let kind = if motion == 0 { 8 } else { 9 };
+    let [x, y, z] = to;
     Command {
-        kind: 9,
-        fields: fields,
+        kind: kind,
+        fields: [x.0, y.0, z.0, 0, 0, 0, 0],
     }
 }
 
@@ -110,59 +90,51 @@ pub fn arc(motion: u16, plane: u16, to: [Length; 3], centre: [Length; 2]) -> Com
 {
     let direction = (motion / 10) as i64;
     let number = (plane / 10) as i64;
-    let x = to[0];
-    let y = to[1];
-    let z = to[2];
-    let first = centre[0];
-    let second = centre[1];
+    let [x, y, z] = to;
+    let [first, second] = centre;
     Command {
         kind: 10,
         fields: [direction, number, x.0, y.0, z.0, first.0, second.0],
     }
 }
 
-// Writes the commands asked for from the start of the space, or nothing where it is too short for all of them.
-pub fn write(orders: [Order; 9], out: &mut [i64]) -> Written
+// Writes the commands asked for from the start of the space, and tells how many they are; or writes nothing where the
+// space is too short for all of them.
+pub fn write(orders: [Option<Command>; 9], out: &mut [i64]) -> Option<u64>
     ensures { (result ≡ written_by (asked orders) (length out.old)) × (out.new ≡ cond (ltb (length out.old) (8 * length (asked orders))) out.old (over (written (asked orders)) out.old)) }
 {
     let number = count(orders);
     if out.len() < 8 * number {
-        return Written::NoRoom;
+        return None;
     }
     lay_all(orders, out);
-    Written::Commands(number as u64)
+    Some(number as u64)
 }
 
 // How many of the orders are asked for.
-fn count(orders: [Order; 9]) -> usize
-    ensures { (result ≡ length (asked orders)) × (result ≤ 9) }
+fn count(orders: [Option<Command>; 9]) -> usize
+    ensures value { result ≡ length (asked orders) }
+    ensures few { result ≤ 9 }
 {
     let mut number = 0;
-    let mut i = 0;
-    while i < 9 {
-        let next = orders[i];
-        if next.asked {
+    for order in orders {
+        if order.is_some() {
             number += 1;
         }
-        i += 1;
     }
     number
 }
 
 // Lays the commands asked for one after the other.
-fn lay_all(orders: [Order; 9], out: &mut [i64])
+fn lay_all(orders: [Option<Command>; 9], out: &mut [i64])
     requires { 8 * length (asked orders) ≤ length out.old }
     ensures { out.new ≡ over (written (asked orders)) out.old }
 {
     let mut at = 0;
-    let mut i = 0;
-    while i < 9 {
-        let next = orders[i];
-        if next.asked {
-            let command = next.command;
+    for order in orders {
+        if let Some(command) = order {
             at = lay(command, out, at);
         }
-        i += 1;
     }
 }
 
@@ -171,14 +143,7 @@ fn lay(c: Command, out: &mut [i64], at: usize) -> usize
     requires { at + 8 ≤ length out.old }
     ensures { (result ≡ at + 8) × (result ≡ at + length (eight c)) × (out.new ≡ laid out.old at (eight c)) }
 {
-    let kind = c.kind as i64;
-    let fields = c.fields;
-    out[at] = kind;
-    let mut i: usize = 0;
-    while i < 7 {
-        let field = fields[i];
-        out[at + 1 + i] = field;
-        i += 1;
-    }
+    out[at] = c.kind as i64;
+    out[at + 1..at + 8].copy_from_slice(&c.fields);
     at + 8
 }

@@ -4,14 +4,14 @@ use mathlib.Core.Path.{◌≡◌, refl, sym, ap, ◌∙◌}
 use mathlib.Core.Bool.{Bool, true, false, cond, ◌&&◌}
 use mathlib.Core.List.{List, [], ◌∷◌, ◌++◌}
 use Prim.Native.Nat.{ℕ, zero, suc, ◌+◌, ◌-◌, ◌*◌, ◌≤◌, ◌<◌, min}
-use native.Mathlib.Numerals.{add-one}
 use native.Mathlib.Omega.{arith}
 use native.Mathlib.Decide.{dec_le}
 use native.Mathlib.Nat.{lt_of_not-le}
 use lib.Dec.{leb, ltb}
 use lib.IntN.{ℤ}
-use lib.ListN.{length, get_or, replicate}
-use lib.Seq.{slice, slice_empty, slice-cons, length-slice}
+use lib.ListN.{length, replicate}
+use Rattle.std.specs.Prelude.{Ok, Err}
+use Rattle.std.specs.List.{fold}
 use borrow.Author.Tests.{le-leb, lt-leb, lt-ltb, le-ltb, leb-true}
 use Rattle.grammar.specs.Bytes.{byte}
 use Rattle.grammar.specs.Grammar.{Number, num}
@@ -22,7 +22,7 @@ use Rattle.parameters.specs.Told.{sign_in, whole_in, PartsOf, valued_by}
 use Rattle.parameters.specs.declared.places.Place.{Place}
 use Rattle.parameters.specs.declared.places.Place.TheVariants.{Entry as entry, Offset as offset, Origin as origin, System as system, Passed as passed}
 use Rattle.parameters.specs.declared.lines.Parts.{Parts}
-use Rattle.parameters.specs.declared.lines.Valued.TheVariants.{Worth, Unfit}
+use Rattle.parameters.specs.declared.refusal.FileRefusal.TheVariants.{ValueUnfit}
 use Rattle.parameters.proofs.Digits.{decimal_append}
 use Rattle.parameters.proofs.Puts.{size_of}
 
@@ -43,64 +43,38 @@ held_first v ds = elim (dec_le v 10000000000) [
       omega arith)
 ]
 
--- the digits of a part, passed up to i
-pub record Worth-to (s : List ℕ) (from to v n i : ℕ) : Type 0 where
-  pub low : n ≤ 10000000000
-  pub start : from ≤ i
-  pub end : i ≤ to
-  pub same : min 10000000000 (decimal n (slice i to s)) ≡ min 10000000000 (decimal v (slice from to s))
+-- a digit more, held
+abbrev pub on : ℕ → ℕ → ℕ
+on n d = min 10000000000 (n * 10 + (d - byte "0"))
 
-module _ (s : List ℕ) (from to v : ℕ) (l : to ≤ length s) where
-  pub worth_none : from ≤ to → v ≤ 10000000000 → Worth-to s from to v v from
-  worth_none h k = record { low = k; start = omega arith; end = h; same = refl }
-
-  module _ {n i : ℕ} (q : Worth-to s from to v n i) where
-    pub worth_on : {m : ℕ} → i < to → m ≡ min 10000000000 (n * 10 + (get_or s i 0 - byte "0")) → Worth-to s from to v m (i + 1)
-    unfolding decimal
-    worth_on {m} h e =
-        let d : slice i to s ≡ get_or s i 0 ∷ slice (i + 1) to s = rw (add-one i) (slice-cons i to s 0 h l) in
-        record {
-          low = omega arith;
-          start = omega (arith, q.start);
-          end = omega arith;
-          same = rw e (held_first (n * 10 + (get_or s i 0 - 48)) (slice (i + 1) to s) ∙ sym (ap (λ (x : List ℕ). min 10000000000 (decimal n x)) d) ∙ q.same);
-        }
-
-    pub worth_all : to ≤ i → n ≡ min 10000000000 (decimal v (slice from to s))
-    unfolding decimal
-    worth_all h =
-        let e : i ≡ to = omega (arith, q.end) in
-        let none : slice i to s ≡ [] = rw e (slice_empty to s) in
-        (let k = q.low in let z : n ≡ min 10000000000 n = omega arith in z) ∙ (rw none at q.same)
+pub worth_fold : (v : ℕ) (ds : List ℕ) → v ≤ 10000000000 → fold on v ds ≡ min 10000000000 (decimal v ds)
+unfolding decimal
+worth_fold v [] h = omega arith
+worth_fold v (d ∷ ds) h = worth_fold (on v d) ds (omega arith) ∙ held_first (v * 10 + (d - 48)) ds
 
 -- zeros behind a number
 abbrev pub zeros : ℕ → List ℕ
 zeros k = replicate k (byte "0")
 
-pub record Zeros-to (v many n left : ℕ) : Type 0 where
+pub record Zeros-to (v many n i : ℕ) : Type 0 where
   pub low : n ≤ 10000000000
-  pub same : min 10000000000 (decimal n (zeros left)) ≡ min 10000000000 (decimal v (zeros many))
+  pub few : i ≤ many
+  pub same : min 10000000000 (decimal n (zeros (many - i))) ≡ min 10000000000 (decimal v (zeros many))
 
-pub zeros_none : (v many : ℕ) → v ≤ 10000000000 → Zeros-to v many v many
-zeros_none v many h = record { low = h; same = refl }
-
-pub zeros_on : (v many : ℕ) {n m left : ℕ} → Zeros-to v many n left → 0 < left → m ≡ min 10000000000 (n * 10 + (48 - byte "0")) → Zeros-to v many m (left - 1)
+pub zeros_on : (v many : ℕ) {n m i : ℕ} → Zeros-to v many n i → i < many → m ≡ on n 48 → Zeros-to v many m (i + 1)
 unfolding decimal
-zeros_on v many {n} {m} {left} q h e =
-    let d : zeros left ≡ byte "0" ∷ zeros (left - 1) = by left h in
+zeros_on v many {n} {m} {i} q h e =
+    let z : many - i ≡ suc (many - (i + 1)) = omega arith in
     record {
       low = omega arith;
-      same = rw e (held_first (n * 10 + (48 - 48)) (zeros (left - 1)) ∙ sym (ap (λ (x : List ℕ). min 10000000000 (decimal n x)) d) ∙ q.same);
+      few = omega arith;
+      same = rw e (held_first (n * 10 + (48 - 48)) (zeros (many - (i + 1))) ∙ sym (ap (λ (k : ℕ). min 10000000000 (decimal n (zeros k))) z) ∙ q.same);
     }
-  where
-    by : (k : ℕ) → 0 < k → zeros k ≡ byte "0" ∷ zeros (k - 1)
-    by zero h = absurd (omega arith)
-    by (suc k) h = let e : suc k - 1 ≡ k = omega arith in rw e
 
-pub zeros_all : (v many : ℕ) {n left : ℕ} → Zeros-to v many n left → left ≤ 0 → n ≡ min 10000000000 (decimal v (zeros many))
+pub zeros_all : (v many : ℕ) {n i : ℕ} → Zeros-to v many n i → many ≤ i → n ≡ min 10000000000 (decimal v (zeros many))
 unfolding decimal
-zeros_all v many {n} {left} q h =
-    let e : left ≡ 0 = omega arith in
+zeros_all v many {n} {i} q h =
+    let e : many - i ≡ 0 = omega arith in
     (let k = q.low in let z : n ≡ min 10000000000 n = omega arith in z) ∙ (rw e at q.same)
 
 -- all of a number's digits
@@ -166,14 +140,11 @@ size_is : (k : ℕ) (x : Number) → value_in k x ≡ signed (negative (sign_in 
 unfolding value_in
 size_is k (num s ds f) = refl
 
-module _ (line : List ℕ) (p : Parts) (x : Number) (q : PartsOf line p x) (place : Place) where
-  many : p.last - p.first ≡ length (fine x)
-  many = sym (sym (ap length q.decimals) ∙ length-slice p.first p.last line q.within)
+module _ (p : Parts) (x : Number) (q : PartsOf p x) (place : Place) where
+  pub value_fine : {k : ℕ} → k ≡ decimals place → k < length p.decimals.now → Err ValueUnfit ≡ valued_by place x
+  value_fine e h = rw (lt-ltb (decimals place) (length (fine x)) (omega (arith, ap length q.decimals)))
 
-  pub value_fine : {k : ℕ} → k ≡ decimals place → k < p.last - p.first → Unfit ≡ valued_by place x
-  value_fine e h = rw (lt-ltb (decimals place) (length (fine x)) (omega (arith, many)))
-
-  module _ {k size : ℕ} (e : k ≡ decimals place) (h : p.last - p.first ≤ k) (m : size ≡ min 10000000000 (decimal 0 (slice p.from p.whole line ++ filled k (slice p.first p.last line)))) where
+  module _ {k size : ℕ} (e : k ≡ decimals place) (h : length p.decimals.now ≤ k) (m : size ≡ min 10000000000 (decimal 0 (p.whole.now ++ filled k p.decimals.now))) where
     abbrev whole : ℕ
     whole = decimal 0 (whole_in x ++ filled (decimals place) (fine x))
 
@@ -184,16 +155,16 @@ module _ (line : List ℕ) (p : Parts) (x : Number) (q : PartsOf line p x) (plac
     allowed_same = rw (size_whole, q.minus, size_is (decimals place) x) (held_allowed place (negative (sign_in x)) whole)
 
     few : ltb (decimals place) (length (fine x)) ≡ false
-    few = le-ltb (decimals place) (length (fine x)) (omega (arith, many))
+    few = le-ltb (decimals place) (length (fine x)) (omega (arith, ap length q.decimals))
 
-    pub value_far : allowed place (signed p.negative size) ≡ false → Unfit ≡ valued_by place x
+    pub value_far : allowed place (signed p.negative size) ≡ false → Err ValueUnfit ≡ valued_by place x
     value_far a = rw (few, ← allowed_same, a)
 
-    pub value_good : {z : ℤ} → Judged place → allowed place (signed p.negative size) ≡ true → z ≡ signed p.negative size → Worth z ≡ valued_by place x
+    pub value_good : {z : ℤ} → Judged place → allowed place (signed p.negative size) ≡ true → z ≡ signed p.negative size → Ok z ≡ valued_by place x
     value_good {z} j a s =
         let g : min 10000000000 whole ≡ whole = exact place j p.negative whole (rw size_whole at a) in
         let v : z ≡ value_in (decimals place) x = s ∙ rw (size_whole, g, q.minus) (sym (size_is (decimals place) x)) in
-        rw (few, ← allowed_same, a) (ap Worth v)
+        rw (few, ← allowed_same, a) (ap Ok v)
 
 pub is_judged : (p : Place) → judged p ≡ true → Judged p
 is_judged (entry n) e = tt

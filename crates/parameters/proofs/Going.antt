@@ -4,16 +4,17 @@ use mathlib.Core.Path.{◌≡◌, refl, sym, ap, ◌∙◌, subst}
 use mathlib.Core.Bool.{Bool, true, false, cond, not}
 use mathlib.Core.List.{List, [], ◌∷◌, map}
 use mathlib.Core.Option.{Option, none, some}
-use Prim.Native.Nat.{ℕ, zero, suc, ◌+◌, ◌-◌, ◌≤◌, ◌<◌}
+use Prim.Native.Nat.{ℕ, zero, suc, ◌+◌, ◌≤◌, ◌<◌}
 use native.Mathlib.Numerals.{add-one}
 use native.Mathlib.Omega.{arith}
 use lib.Dec.{eqb, ltb}
 use lib.IntN.{ℤ, pos, nat_abs}
-use lib.ListN.{length, get_or, set, length-set, drop_of_length-le, get_or-eq_default}
-use lib.Seq.{slice, ext_get_or, get_or-set_same, get_or-set_other}
+use lib.ListN.{length, get_or, set, length-set}
+use lib.Seq.{ext_get_or, get_or-set_same, get_or-set_other}
 use native.Mathlib.Decide.{ℕ_discrete}
 use borrow.Author.Tests.{eq-eqb, ne_eqb, le-ltb, ltb-false}
-use Rattle.rules.specs.Codes.{systems, further}
+use Rattle.std.specs.Prelude.{Option as Found, Some, None, Ok, Err}
+use Rattle.std.specs.Option.{option_map}
 use Rattle.rules.specs.Reach.{counts, nowhere}
 use Rattle.rules.specs.Promise.{disorder}
 use Rattle.rules.specs.Frames.{lines}
@@ -21,52 +22,42 @@ use Rattle.rules.specs.With.{with_origins, with_offset, with_system}
 use Rattle.rules.specs.declared.Length.{Length}
 use Rattle.rules.specs.declared.Record.{Record}
 use Rattle.parameters.specs.File.{Entry}
-use Rattle.parameters.specs.Places.{lies, stands_for, judged, unfit, offset_number, origin_number}
-use Rattle.parameters.specs.Reading.{Loaded, number_of, line_refusal, risen, or_else, refusal, by_line, refused_line, derived, unsaid, value_at, given, renewed, entry_from, table_from, length_from, system_code, record_from, by_number, loaded, Loads, FirstRefused}
-use Rattle.parameters.specs.Parse.{parse, parsed, trees, entries_at}
-use Rattle.parameters.specs.Told.{LineAt, SaidAs, refused, gives, Remains, GivenAt}
-use Rattle.parameters.specs.declared.lines.Line.{Line}
+use Rattle.parameters.specs.Places.{lies, stands_for, judged, unfit, offset_number, origin_number, number_from}
+use Rattle.parameters.specs.Refusal.{refusal_number}
+use Rattle.parameters.specs.Reading.{Loaded, number_of, line_refusal, risen, or_else, refusal, by_line, refused_line, derived, unsaid, value_at, given, renewed, entry_from, table_from, length_from, system_code, record_from, by_number, loaded, loaded_as, Loads, FirstRefused}
+use Rattle.parameters.specs.Parse.{parse, parsed, trees, entries_of}
+use Rattle.parameters.specs.Told.{FirstLine, Gives, JudgedAs, Remains, GivenFrom}
 use Rattle.parameters.specs.declared.lines.Said.{Said}
-use Rattle.parameters.specs.declared.lines.Said.TheVariants.{Gives, Refused}
-use Rattle.parameters.specs.declared.load.Given.{Given}
+use Rattle.parameters.specs.declared.load.RefusedLine.{RefusedLine}
+use Rattle.parameters.specs.declared.refusal.FileRefusal.{FileRefusal}
+use Rattle.parameters.specs.declared.refusal.FileRefusal.TheVariants.{Disorder, Malformed, NotRising, NumberOutOfRange, ValueUnfit, NoRoom}
 use Rattle.parameters.proofs.Loading.{map_tells, loads_some}
 use Rattle.parameters.proofs.Held.{entry_place, offset_place, origin_place_holds, system_place}
 use Rattle.parameters.proofs.RoundTrip.{renewed_length, renewed_at}
 use Rattle.parameters.proofs.Order.{no_tree, both_zero}
 
--- ---- the lines from a place on
-pub trees_on : (text : List ℕ) (at : ℕ) {r : Line} → LineAt text at r → trees text at ≡ parse (slice at r.end text) ∷ trees text r.next
+-- ---- the lines of a text
+pub trees_on : {text line behind : List ℕ} → FirstLine text line behind → trees text ≡ parse line ∷ trees behind
 unfolding trees
-trees_on text at q = ap parsed q.cut
+trees_on f = ap parsed f.cut
 
-pub trees_end : (text : List ℕ) (at : ℕ) → length text ≤ at → trees text at ≡ []
+pub trees_end : {text : List ℕ} → text ≡ [] → trees text ≡ []
 unfolding trees
-trees_end text at h = rw (drop_of_length-le text h)
-
--- ---- what a line said
-pub record GivesHere (least n : ℕ) (z : ℤ) (o : Option Entry) : Type 0 where
-  pub entry : Entry
-  pub is : o ≡ some entry
-  pub right : line_refusal least (some entry) ≡ 0
-  pub number : number_of entry ≡ n
-  pub small : n ≤ 5399
-  pub value : judged (stands_for n) ≡ true → value_at entry ≡ z
-
-pub gives_here : {least n : ℕ} {z : ℤ} {s : Said} {o : Option Entry} → SaidAs least s o → s ≡ Gives n z → GivesHere least n z o
-gives_here (refused a b) q = absurd (let y : ◌≡◌ {A = ℕ} 0 1 = cc in omega arith)
-gives_here {n = n} {z = z} (gives {n = m} {z = y} {e = e} a b c d) q =
-    let en : m ≡ n = cc in
-    let ez : y ≡ z = cc in
-    record { entry = e; is = refl; right = a; number = b ∙ en; small = subst (λ (k : ℕ). k ≤ 5399) en c; value = λ j. d (rw en j) ∙ ez }
-
-pub refused_here : {least n : ℕ} {s : Said} {o : Option Entry} → SaidAs least s o → s ≡ Refused n → (line_refusal least o ≡ n) × (n ≡ 0 → ⊥)
-refused_here {n = n} (refused {n = m} a b) q = let e : m ≡ n = cc in (a ∙ e, λ z. b (e ∙ z))
-refused_here (gives a b c d) q = absurd (let y : ◌≡◌ {A = ℕ} 0 1 = cc in omega arith)
+trees_end e = rw e
 
 -- ---- refusals
-or_first : (a b n : ℕ) → a ≡ n → (n ≡ 0 → ⊥) → n ≡ or_else a b
+or_first : (a b n : ℕ) → a ≡ n → (n ≡ 0 → ⊥) → or_else a b ≡ n
 or_first zero b n e h = absurd (h (sym e))
-or_first (suc a) b n e h = sym e
+or_first (suc a) b n e h = e
+
+-- no refusal has the number of acceptance
+pub some_number : (why : FileRefusal) → refusal_number why ≡ 0 → ⊥
+some_number Disorder e = omega arith
+some_number Malformed e = omega arith
+some_number NotRising e = omega arith
+some_number NumberOutOfRange e = omega arith
+some_number ValueUnfit e = omega arith
+some_number NoRoom e = omega arith
 
 -- a line that is right behind a number is right where it comes first
 right_first : (least : ℕ) (o : Option Entry) → line_refusal least o ≡ 0 → line_refusal 0 o ≡ 0
@@ -101,143 +92,109 @@ below_none least (some e ∷ os) m q h =
     let l = risen_low least e z.0 in
     rw (ne_eqb (number_of e) m (λ d. omega arith)) (below_none (suc (number_of e)) os m z.1 (omega arith))
 
--- ---- judging: the lines from a place on, behind a number, are refused as the file is
-pub record Judging (text : List ℕ) (at least : ℕ) : Type 0 where
-  pub within : at ≤ length text
+-- ---- judging: the lines of the rest, behind a number, are refused as the text is
+abbrev onward : ℕ → Found ℕ → Found ℕ
+onward passed None = None
+onward passed (Some k) = Some (passed + k)
+
+onward_further : (passed : ℕ) (o : Found ℕ) → onward passed (option_map suc o) ≡ onward (passed + 1) o
+onward_further passed None = refl
+onward_further passed (Some k) = let e : passed + suc k ≡ passed + 1 + k = omega arith in ap Some e
+
+pub record Judging (text rest : List ℕ) (least passed : ℕ) : Type 0 where
   pub low : least ≤ 5400
-  pub same : refusal least (trees text at) ≡ refusal 0 (trees text 0)
+  pub few : passed + length rest ≤ length text
+  pub same : refusal least (trees rest) ≡ refusal 0 (trees text)
+  pub place : onward passed (refused_line least (trees rest)) ≡ refused_line 0 (trees text)
 
-pub judge_start : (text : List ℕ) → Judging text 0 0
-judge_start text = record { within = omega arith; low = omega arith; same = refl }
+module _ {text rest : List ℕ} {least passed : ℕ} (q : Judging text rest least passed) where
+  pub judge_end : rest ≡ [] → JudgedAs text None
+  judge_end h =
+      let e = trees_end h in
+      (sym q.same ∙ ap (refusal least) e, sym q.place ∙ ap (λ (t : List (Option Entry)). onward passed (refused_line least t)) e)
 
-module _ (text : List ℕ) {at least : ℕ} (q : Judging text at least) where
-  pub judge_end : length text ≤ at → 0 ≡ refusal 0 (trees text 0)
-  judge_end h = sym (ap (refusal least) (trees_end text at h)) ∙ q.same
+  module _ {line behind : List ℕ} (f : FirstLine rest line behind) where
+    step : refusal least (trees rest) ≡ or_else (line_refusal least (parse line)) (refusal (risen (parse line)) (trees behind))
+    step = ap (refusal least) (trees_on f)
 
-  module _ {r : Line} (l : LineAt text at r) {s : Said} (o : SaidAs least s (parse (slice at r.end text))) where
-    step : refusal least (trees text at) ≡ or_else (line_refusal least (parse (slice at r.end text))) (refusal (risen (parse (slice at r.end text))) (trees text r.next))
-    step = ap (refusal least) (trees_on text at l)
+    place_step : onward passed (refused_line least (trees rest)) ≡ onward passed (by_line (line_refusal least (parse line)) (refused_line (risen (parse line)) (trees behind)))
+    place_step = ap (λ (t : List (Option Entry)). onward passed (refused_line least t)) (trees_on f)
 
-    pub judge_on : {n : ℕ} {z : ℤ} → s ≡ Gives n z → Judging text r.next (n + 1)
-    judge_on {n} {z} e =
-        let g = gives_here o e in
-        record {
-          within = l.last;
-          low = omega (arith, g.small);
-          same = sym (sym q.same ∙ step ∙ rw (g.is, g.right, g.number, add-one n));
-        }
+    pub judge_on : {s : Said} → Gives least s (parse line) → Judging text behind (s.number + 1) (passed + 1)
+    judge_on {s} g = record {
+      low = omega (arith, g.small);
+      few = omega (arith, q.few, f.shorter);
+      same = sym (sym q.same ∙ step ∙ rw (g.is, g.right, g.number, add-one s.number));
+      place = sym (onward_further passed (refused_line (s.number + 1) (trees behind))) ∙ sym (sym q.place ∙ place_step ∙ rw (g.is, g.right, g.number, add-one s.number));
+    }
 
-    pub judge_refused : {n : ℕ} → s ≡ Refused n → n ≡ refusal 0 (trees text 0)
-    judge_refused {n} e =
-        let g = refused_here o e in
-        or_first (line_refusal least (parse (slice at r.end text))) (refusal (risen (parse (slice at r.end text))) (trees text r.next)) n g.0 g.1 ∙ sym step ∙ q.same
-
--- ---- the first line that is refused, with so many lines before it
-abbrev onward : ℕ → ℕ → ℕ
-onward passed zero = 0
-onward passed (suc k) = suc (passed + k)
-
-onward_further : (passed k : ℕ) → onward passed (further k) ≡ onward (passed + 1) k
-onward_further passed zero = refl
-onward_further passed (suc k) = omega arith
-
-onward_none : (k : ℕ) → onward 0 k ≡ k
-onward_none zero = refl
-onward_none (suc k) = omega arith
-
-pub record Placing (text : List ℕ) (at least passed : ℕ) : Type 0 where
-  pub within : at ≤ length text
-  pub low : least ≤ 5400
-  pub few : passed ≤ at
-  pub same : onward passed (refused_line least (trees text at)) ≡ refused_line 0 (trees text 0)
-
-pub place_start : (text : List ℕ) → Placing text 0 0 0
-place_start text = record { within = omega arith; low = omega arith; few = omega arith; same = onward_none (refused_line 0 (trees text 0)) }
-
-module _ (text : List ℕ) {at least passed : ℕ} (q : Placing text at least passed) where
-  pub place_end : length text ≤ at → 0 ≡ refused_line 0 (trees text 0)
-  place_end h = sym (ap (λ (t : List (Option Entry)). onward passed (refused_line least t)) (trees_end text at h)) ∙ q.same
-
-  module _ {r : Line} (l : LineAt text at r) {s : Said} (o : SaidAs least s (parse (slice at r.end text))) where
-    place_step : onward passed (refused_line least (trees text at)) ≡ onward passed (by_line (line_refusal least (parse (slice at r.end text))) (refused_line (risen (parse (slice at r.end text))) (trees text r.next)))
-    place_step = ap (λ (t : List (Option Entry)). onward passed (refused_line least t)) (trees_on text at l)
-
-    pub place_on : {n : ℕ} {z : ℤ} → s ≡ Gives n z → Placing text r.next (n + 1) (passed + 1)
-    place_on {n} {z} e =
-        let g = gives_here o e in
-        record {
-          within = l.last;
-          low = omega (arith, g.small);
-          few = omega (arith, q.few, l.on);
-          same = sym (onward_further passed (refused_line (n + 1) (trees text r.next))) ∙ sym (sym q.same ∙ place_step ∙ rw (g.is, g.right, g.number, add-one n));
-        }
-
-    pub place_refused : {n : ℕ} → s ≡ Refused n → passed + 1 ≡ refused_line 0 (trees text 0)
-    place_refused {n} e =
-        let g = refused_here o e in
-        by (line_refusal least (parse (slice at r.end text))) (λ z. g.1 (sym g.0 ∙ z)) ∙ sym place_step ∙ q.same
+    pub judge_refused : (why : FileRefusal) → line_refusal least (parse line) ≡ refusal_number why → JudgedAs text (Some (record { line = passed + 1; why = why }))
+    judge_refused why e = (
+      sym q.same ∙ step ∙ or_first (line_refusal least (parse line)) (refusal (risen (parse line)) (trees behind)) (refusal_number why) e (some_number why),
+      sym q.place ∙ place_step ∙ by (line_refusal least (parse line)) (λ z. some_number why (sym e ∙ z)),
+    )
       where
-        by : (a : ℕ) → (a ≡ 0 → ⊥) → passed + 1 ≡ onward passed (by_line a (refused_line (risen (parse (slice at r.end text))) (trees text r.next)))
+        by : (a : ℕ) → (a ≡ 0 → ⊥) → onward passed (by_line a (refused_line (risen (parse line)) (trees behind))) ≡ Some (passed + 1)
         by zero h = absurd (h refl)
-        by (suc a) h = omega arith
+        by (suc a) h = refl
+
+pub judged_line : (text : List ℕ) (o : Found RefusedLine) → JudgedAs text o → option_map (λ (r : RefusedLine). r.line) o ≡ refused_line 0 (trees text)
+judged_line text None j = sym j.1
+judged_line text (Some r) j = sym j.1
 
 -- ---- what the file gives a number
-pub remains_start : (text : List ℕ) (at m : ℕ) → at ≤ length text → refusal 0 (trees text at) ≡ 0 → Remains text at at m
-remains_start text at m h r = record { within = h; right = r; same = λ n k. refl }
+pub remains_start : (text : List ℕ) (m : ℕ) → Remains text text m
+remains_start text m = record { same = λ n k. refl }
 
-pub remains_on : {text : List ℕ} {from at m : ℕ} (k : ℕ) → Remains text from at m → m ≤ k → Remains text from at k
-remains_on k q h = record { within = q.within; right = q.right; same = λ n l. q.same n (omega arith) }
+pub remains_of : {text text' rest : List ℕ} {m : ℕ} → text ≡ text' → Remains text rest m → Remains text' rest m
+remains_of {rest = rest} {m = m} e q = subst (λ (t : List ℕ). Remains t rest m) e q
 
-pub remains_join : {text : List ℕ} {from at next m : ℕ} (k : ℕ) → Remains text from at m → Remains text at next k → m ≤ k → Remains text from next k
-remains_join k q r h = record { within = r.within; right = r.right; same = λ n l. r.same n l ∙ q.same n (omega arith) }
+pub remains_on : {text rest : List ℕ} {m : ℕ} (k : ℕ) → Remains text rest m → m ≤ k → Remains text rest k
+remains_on k q h = record { same = λ n l. q.same n (omega arith) }
 
-module _ (text : List ℕ) (at n : ℕ) {i : ℕ} (q : Remains text at i n) where
-  unsaid_here : given (entries_at text i) n ≡ unsaid n → {v : ℤ} → v ≡ unsaid n → GivenAt text at n (record { value = v; next = i })
-  unsaid_here g e = record { value = e ∙ sym (sym (q.same n (omega arith)) ∙ g); rest = remains_on (n + 1) q (omega arith) }
+pub remains_join : {text rest next : List ℕ} {m : ℕ} (k : ℕ) → Remains text rest m → Remains rest next k → m ≤ k → Remains text next k
+remains_join k q r h = record { same = λ n l. r.same n l ∙ q.same n (omega arith) }
 
-  pub value_end : length text ≤ i → {v : ℤ} → v ≡ unsaid n → GivenAt text at n (record { value = v; next = i })
-  value_end h = unsaid_here (ap (λ (t : List (Option Entry)). given (derived t) n) (trees_end text i h))
+module _ {text rest : List ℕ} {n : ℕ} (q : Remains text rest n) where
+  unsaid_here : given (entries_of rest) n ≡ unsaid n → {v : ℤ} → v ≡ unsaid n → GivenFrom text n v rest
+  unsaid_here g e = record { value_is = e ∙ sym (sym (q.same n (omega arith)) ∙ g); remains = remains_on (n + 1) q (omega arith) }
 
-  module _ {r : Line} (l : LineAt text i r) {s : Said} (o : SaidAs 0 s (parse (slice i r.end text))) where
-    abbrev tree : Option Entry
-    tree = parse (slice i r.end text)
+  pub value_end : rest ≡ [] → {v : ℤ} → v ≡ unsaid n → GivenFrom text n v rest
+  value_end h = unsaid_here (ap (λ (t : List (Option Entry)). given (derived t) n) (trees_end h))
 
-    parts : (line_refusal 0 tree ≡ 0) × (refusal (risen tree) (trees text r.next) ≡ 0)
-    parts = both_zero (line_refusal 0 tree) (refusal (risen tree) (trees text r.next)) (sym (ap (refusal 0) (trees_on text i l)) ∙ q.right)
+  module _ (r : refusal 0 (trees rest) ≡ 0) {line behind : List ℕ} (f : FirstLine rest line behind) where
+    parts : (line_refusal 0 (parse line) ≡ 0) × (refusal (risen (parse line)) (trees behind) ≡ 0)
+    parts = both_zero (line_refusal 0 (parse line)) (refusal (risen (parse line)) (trees behind)) (sym (ap (refusal 0) (trees_on f)) ∙ r)
 
-    pub value_refused : {m : ℕ} → s ≡ Refused m → ⊥
-    value_refused e = let g = refused_here o e in g.1 (sym g.0 ∙ parts.0)
+    pub value_refused : (why : FileRefusal) → line_refusal 0 (parse line) ≡ refusal_number why → ⊥
+    value_refused why e = some_number why (sym e ∙ parts.0)
 
-    module _ {m : ℕ} {z : ℤ} (e : s ≡ Gives m z) where
-      here : GivesHere 0 m z tree
-      here = gives_here o e
+    module _ {s : Said} (here : Gives 0 s (parse line)) where
+      entries_are : entries_of rest ≡ here.entry ∷ entries_of behind
+      entries_are = ap derived (trees_on f) ∙ rw here.is
 
-      entries_are : entries_at text i ≡ here.entry ∷ entries_at text r.next
-      entries_are = ap derived (trees_on text i l) ∙ rw here.is
-
-      given_is : (k : ℕ) → given (entries_at text i) k ≡ cond (eqb m k) (value_at here.entry) (given (entries_at text r.next) k)
+      given_is : (k : ℕ) → given (entries_of rest) k ≡ cond (eqb s.number k) (value_at here.entry) (given (entries_of behind) k)
       given_is k = ap (λ (es : List Entry). given es k) entries_are ∙ rw here.number
 
-      right_on : refusal (suc m) (trees text r.next) ≡ 0
-      right_on = sym (ap (λ (k : ℕ). refusal k (trees text r.next)) (ap risen here.is ∙ ap suc here.number)) ∙ parts.1
+      right_on : refusal (suc s.number) (trees behind) ≡ 0
+      right_on = sym (ap (λ (k : ℕ). refusal k (trees behind)) (ap risen here.is ∙ ap suc here.number)) ∙ parts.1
 
-      on : (k : ℕ) → n ≤ k → m < k → Remains text at r.next k
-      on k h j = record {
-        within = l.last;
-        right = all_right (suc m) (trees text r.next) right_on;
-        same = λ d b. sym (sym (q.same d (omega arith)) ∙ given_is d ∙ rw (ne_eqb m d (λ x. omega arith)));
-      }
+      pub accepted_on : refusal 0 (trees behind) ≡ 0
+      accepted_on = all_right (suc s.number) (trees behind) right_on
 
-      pub value_behind : n < m → {v : ℤ} → v ≡ unsaid n → GivenAt text at n (record { value = v; next = i })
-      value_behind h = unsaid_here (given_is n ∙ rw (ne_eqb m n (λ x. omega arith)) (below_none (suc m) (trees text r.next) n right_on (omega arith)))
+      on : (k : ℕ) → n ≤ k → s.number < k → Remains text behind k
+      on k h j = record { same = λ d b. sym (sym (q.same d (omega arith)) ∙ given_is d ∙ rw (ne_eqb s.number d (λ x. omega arith))) }
 
-      pub value_here : m ≡ n → judged (stands_for n) ≡ true → {v : ℤ} → v ≡ z → GivenAt text at n (record { value = v; next = r.next })
+      pub value_behind : n < s.number → {v : ℤ} → v ≡ unsaid n → GivenFrom text n v rest
+      value_behind h = unsaid_here (given_is n ∙ rw (ne_eqb s.number n (λ x. omega arith)) (below_none (suc s.number) (trees behind) n right_on (omega arith)))
+
+      pub value_here : s.number ≡ n → judged (stands_for n) ≡ true → {v : ℤ} → v ≡ s.value → GivenFrom text n v behind
       value_here h j f = record {
-        value = f ∙ sym (sym (q.same n (omega arith)) ∙ given_is n ∙ rw (eq-eqb m n h) (here.value (rw h j)));
-        rest = on (n + 1) (omega arith) (omega arith);
+        value_is = f ∙ sym (sym (q.same n (omega arith)) ∙ given_is n ∙ rw (eq-eqb s.number n h) (here.value (rw h j)));
+        remains = on (n + 1) (omega arith) (omega arith);
       }
 
-      pub value_before : m ≤ n → (m ≡ n → ⊥) → Remains text at r.next n
+      pub value_before : s.number ≤ n → (s.number ≡ n → ⊥) → Remains text behind n
       value_before h d = on n (omega arith) (omega (arith, d))
 
 -- ---- a list made anew, from its front
@@ -280,6 +237,20 @@ module _ (es : List Entry) (table : List ℤ) where
   table_next zero a b e = absurd (omega arith)
   table_next (suc n) a b e = e ∙ sym (table_at (suc n) b)
 
+-- lengths made anew by other entries and numbers that give the same
+renewed_as : (es es' : List Entry) (f g : ℕ → ℕ) (n : ℕ) (ls : List Length) → ((i : ℕ) → n ≤ i → i < n + length ls → given es (f i) ≡ given es' (g i)) → renewed (length_from es f) n ls ≡ renewed (length_from es' g) n ls
+renewed_as es es' f g n [] h = refl
+renewed_as es es' f g n (x ∷ ls) h = rw (h n (omega arith) (omega arith), renewed_as es es' f g (suc n) ls (λ i a b. h i (omega arith) (omega arith)))
+
+pub lengths_as : {text rest : List ℕ} {m : ℕ} (first : ℕ) (g : ℕ → ℕ) (ls : List Length) → Remains text rest m → ((i : ℕ) → i < length ls → (m ≤ number_from first i) × (number_from first i ≡ g i))
+    → renewed (length_from (entries_of rest) (number_from first)) 0 ls ≡ renewed (length_from (entries_of text) g) 0 ls
+lengths_as {text} {rest} {m} first g ls q h =
+    renewed_as (entries_of rest) (entries_of text) (number_from first) g 0 ls (λ i a b. let w = h i (omega arith) in q.same (number_from first i) w.0 ∙ ap (given (entries_of text)) w.1)
+
+-- the numbers rise with the places
+pub number_rises : (first k i : ℕ) → k < i → number_from first k < number_from first i
+number_rises first k i h = omega arith
+
 module _ (es : List Entry) (number : ℕ → ℕ) (old : List Length) where
   pub lengths_long : length (renewed (length_from es number) 0 old) ≡ length old
   lengths_long = renewed_length (length_from es number) 0 old
@@ -292,15 +263,15 @@ module _ (es : List Entry) (number : ℕ → ℕ) (old : List Length) where
       let z : 0 + i ≡ i = omega arith in
       ap counts (e ∙ ap (given es) f) ∙ sym (renewed_at (length_from es number) 0 i old nowhere h ∙ rw z)
 
--- a value found from a place on is that of the file
-pub from_start : {text : List ℕ} {from at n : ℕ} {r : Given} → Remains text from at n → GivenAt text at n r → r.value ≡ given (entries_at text from) n
-from_start {n = n} q g = g.value ∙ q.same n (omega arith)
+-- a value found in the rest is that of the text
+pub from_start : {text rest next : List ℕ} {n : ℕ} {v : ℤ} → Remains text rest n → GivenFrom rest n v next → v ≡ given (entries_of text) n
+from_start {n = n} q g = g.value_is ∙ q.same n (omega arith)
 
 pub entry_judged : (n : ℕ) → 1 ≤ n → n ≤ 4999 → judged (stands_for n) ≡ true
 entry_judged n h l = rw (entry_place n h l)
 
-pub offset_judged : (i : ℕ) → i < 3 → judged (stands_for (5211 + i)) ≡ true
-offset_judged i h = rw (offset_place i h)
+pub offset_judged : (i : ℕ) → i < 3 → {n : ℕ} → n ≡ offset_number i → judged (stands_for n) ≡ true
+offset_judged i h e = rw (e, offset_place i h)
 
 pub system_judged : judged (stands_for 5220) ≡ true
 system_judged = rw system_place
@@ -308,54 +279,38 @@ system_judged = rw system_place
 pub origin_judged : (i : ℕ) → i < 27 → {n : ℕ} → n ≡ origin_number i → judged (stands_for n) ≡ true
 origin_judged i h e = rw (e, origin_place_holds i h)
 
-past_nine : (n : ℕ) → 540 ≡ system_code (suc (suc (suc (suc (suc (suc (suc (suc (suc (suc n))))))))))
-past_nine n = sym (get_or-eq_default systems 540 {n = (suc (suc (suc (suc (suc (suc (suc (suc (suc (suc n)))))))))) - 1} (omega arith))
-
-pub system_other : (n : ℕ) → (n ≡ 2 → ⊥) → (n ≡ 3 → ⊥) → (n ≡ 4 → ⊥) → (n ≡ 5 → ⊥) → (n ≡ 6 → ⊥) → (n ≡ 7 → ⊥) → (n ≡ 8 → ⊥) → (n ≡ 9 → ⊥) → 540 ≡ system_code n
-system_other zero a b c d e f g h = refl
-system_other (suc zero) a b c d e f g h = refl
-system_other (suc (suc zero)) a b c d e f g h = absurd (a refl)
-system_other (suc (suc (suc zero))) a b c d e f g h = absurd (b refl)
-system_other (suc (suc (suc (suc zero)))) a b c d e f g h = absurd (c refl)
-system_other (suc (suc (suc (suc (suc zero))))) a b c d e f g h = absurd (d refl)
-system_other (suc (suc (suc (suc (suc (suc zero)))))) a b c d e f g h = absurd (e refl)
-system_other (suc (suc (suc (suc (suc (suc (suc zero))))))) a b c d e f g h = absurd (f refl)
-system_other (suc (suc (suc (suc (suc (suc (suc (suc zero)))))))) a b c d e f g h = absurd (g refl)
-system_other (suc (suc (suc (suc (suc (suc (suc (suc (suc zero))))))))) a b c d e f g h = absurd (h refl)
-system_other (suc (suc (suc (suc (suc (suc (suc (suc (suc (suc n)))))))))) a b c d e f g h = past_nine n
-
 -- ---- all that a call leaves
 parsed_is : (ls : List (List ℕ)) → parsed ls ≡ map parse ls
 parsed_is [] = refl
 parsed_is (l ∷ ls) = ap (λ (t : List (Option Entry)). parse l ∷ t) (parsed_is ls)
 
-pub first_refused : (text : List ℕ) {n : ℕ} → n ≡ refused_line 0 (trees text 0) → FirstRefused text n
+pub first_refused : (text : List ℕ) {n : Found ℕ} → n ≡ refused_line 0 (trees text) → FirstRefused text n
 unfolding trees
 first_refused text e tree t = e ∙ ap (refused_line 0) (parsed_is (lines text) ∙ sym (map_tells tree t (lines text)))
 
 module _ (text : List ℕ) (r : Record) (table : List ℤ) where
-  loaded_is : loaded parse text r table ≡ by_number (cond (disorder r table) 1 (refusal 0 (trees text 0))) (entries_at text 0) r table
+  loaded_is : loaded parse text r table ≡ by_number (cond (disorder r table) 1 (refusal 0 (trees text))) (entries_of text) r table
   unfolding loaded trees
   loaded_is = rw (parsed_is (lines text))
 
-  pub read_as : {after : Loaded} → after ≡ by_number (cond (disorder r table) 1 (refusal 0 (trees text 0))) (entries_at text 0) r table → Loads text r table after
+  pub read_as : {after : Loaded} → after ≡ by_number (cond (disorder r table) 1 (refusal 0 (trees text))) (entries_of text) r table → Loads text r table after
   read_as e tree t = e ∙ sym loaded_is ∙ loads_some text r table tree t
 
-  pub read_1 : disorder r table ≡ true → Loads text r table (record { number = 1; rec = r; table = table })
+  pub read_1 : disorder r table ≡ true → Loads text r table (loaded_as (Err Disorder) r table)
   read_1 d = read_as (rw d)
 
-  pub read_refused_with : {n : ℕ} → disorder r table ≡ false → n ≡ refusal 0 (trees text 0) → (n ≡ 0 → ⊥) → Loads text r table (record { number = n; rec = r; table = table })
-  read_refused_with {n} d e h = read_as (rw (d, ← e) (by n h))
+  pub read_refused_with : (why : FileRefusal) → disorder r table ≡ false → refusal 0 (trees text) ≡ refusal_number why → Loads text r table (loaded_as (Err why) r table)
+  read_refused_with why d e = read_as (rw (d, e) (by (refusal_number why) (some_number why)))
     where
-      by : (k : ℕ) → (k ≡ 0 → ⊥) → record { number = k; rec = r; table = table } ≡ by_number k (entries_at text 0) r table
+      by : (k : ℕ) → (k ≡ 0 → ⊥) → record { number = k; rec = r; table = table } ≡ by_number k (entries_of text) r table
       by zero h = absurd (h refl)
       by (suc k) h = refl
 
-  pub read_0 : {left : List ℤ} {offset origins : List Length} {system : ℕ} {z : ℤ} → disorder r table ≡ false → 0 ≡ refusal 0 (trees text 0)
-      → left ≡ table_from (entries_at text 0) table
-      → offset ≡ renewed (length_from (entries_at text 0) offset_number) 0 r.offset
-      → origins ≡ renewed (length_from (entries_at text 0) origin_number) 0 r.origins
-      → system ≡ system_code (nat_abs z) → z ≡ given (entries_at text 0) 5220
-      → Loads text r table (record { number = 0; rec = with_offset offset (with_origins origins (with_system system r)); table = left })
+  pub read_0 : {left : List ℤ} {offset origins : List Length} {system : ℕ} {z : ℤ} → disorder r table ≡ false → refusal 0 (trees text) ≡ 0
+      → left ≡ table_from (entries_of text) table
+      → offset ≡ renewed (length_from (entries_of text) offset_number) 0 r.offset
+      → origins ≡ renewed (length_from (entries_of text) origin_number) 0 r.origins
+      → system ≡ system_code (nat_abs z) → z ≡ given (entries_of text) 5220
+      → Loads text r table (loaded_as (Ok (with_offset offset (with_origins origins (with_system system r)))) r left)
   unfolding record_from
-  read_0 d e a b c f g = read_as (rw (d, ← e) (rw (a, b, c, f, g)))
+  read_0 d e a b c f g = read_as (rw (d, e) (rw (a, b, c, f, g)))

@@ -10,14 +10,14 @@ use lib.IntN.{nat_abs}
 use lib.ListN.{length, set, length-append}
 use lib.Seq.{sets}
 use borrow.Author.Tests.{ltb-false, lt-ltb, le-ltb, ne_eqb}
-use Rattle.grammar.specs.Bytes.{byte, bytes}
+use Rattle.grammar.specs.Bytes.{byte}
 use Rattle.grammar.specs.Grammar.{spell_sign, write_fraction, write_number}
 use Rattle.rules.specs.Numbers.{minus, signed}
 use Rattle.frames.proofs.Stores.{sets_append, set_behind}
 use Rattle.parameters.specs.Places.{before, trimmed}
 use Rattle.parameters.specs.Writing.{last_digit, digits_in, digits_of, without, last, fraction, sign_of, shortest}
 use Rattle.parameters.specs.Text.{Cut}
-use Rattle.parameters.proofs.Digits.{last_length, trim_short}
+use Rattle.parameters.proofs.Digits.{last_length}
 
 -- ---- counted
 enough : (k j n : ℕ) → n < k → n < j → digits_in k n ≡ digits_in j n
@@ -101,9 +101,6 @@ pub record Cutting (k n left rest : ℕ) : Type 0 where
   pub same : trimmed (last left rest) ≡ trimmed (last k n)
   pub part : rest ≡ without (k - left) n
 
-pub cut_start : (k n : ℕ) → Cutting k n k n
-cut_start k n = let e : k - k ≡ 0 = omega arith in record { low = omega arith; same = refl; part = rw e }
-
 pub cut_on : (k n left rest : ℕ) → 0 < left → rest % 10 ≡ 0 → Cutting k n left rest → Cutting k n (left - 1) (rest / 10)
 cut_on k n left rest h e c =
     let p : k - (left - 1) ≡ suc (k - left) = omega (arith, c.low) in
@@ -114,9 +111,6 @@ cut_stop k n left rest h e c =
     let q = last_kept left rest h e in
     let d : last left rest ≡ trimmed (last k n) = sym q ∙ c.same in
     record { many = sym (last_length left rest) ∙ ap length d; left = c.part; digits = d }
-
-pub cut_end : (k n rest : ℕ) → Cutting k n 0 rest → Cut k n 0 rest
-cut_end k n rest c = record { many = ap length c.same; left = c.part; digits = c.same }
 
 -- ---- put
 last_first : (l : List ℕ) (at k n : ℕ) → sets (set l (at + k) (last_digit n)) at (last k (n / 10)) ≡ sets l at (last (suc k) n)
@@ -134,24 +128,6 @@ digit_put l at left rest h =
     last_first l at (left - 1) rest ∙ ap (λ (k : ℕ). sets l at (last k rest)) p
 
 -- ---- the parts of a number, put
-pub none_put : {t : List ℕ} (l : List ℕ) (at : ℕ) (x : List ℕ) → x ≡ [] → t ≡ l → (at ≡ at + length x) × (t ≡ sets l at x)
-none_put l at x e h = rw e (omega arith, h)
-
-pub one_put : (l : List ℕ) (at b : ℕ) (x : List ℕ) → x ≡ b ∷ [] → (at + 1 ≡ at + length x) × (set l at b ≡ sets l at x)
-one_put l at b x e = rw e (refl, refl)
-
-pub sign_none : (b : Bool) (n : ℕ) → n ≡ 0 → spell_sign (sign_of (minus (signed b n))) ≡ []
-sign_none true n e = rw e
-sign_none false n e = refl
-
-pub sign_plain : (b : Bool) (n : ℕ) → b ≡ false → spell_sign (sign_of (minus (signed b n))) ≡ []
-sign_plain b n e = rw e
-
-pub sign_minus : (b : Bool) (n : ℕ) → b ≡ true → (n ≡ 0 → ⊥) → spell_sign (sign_of (minus (signed b n))) ≡ bytes "-"
-sign_minus true zero e h = absurd (h refl)
-sign_minus true (suc n) e h = refl
-sign_minus false n e h = absurd (let z : ◌≡◌ {A = ℕ} 0 1 = cc in omega arith)
-
 pub whole_put : {t : List ℕ} {count : ℕ} (l : List ℕ) (at n : ℕ) → count ≡ length (digits_of n) → t ≡ sets l at (last count n)
     → (at + count ≡ at + length (digits_of n)) × (t ≡ sets l at (digits_of n))
 whole_put l at n e h = (ap (λ (k : ℕ). at + k) e, h ∙ ap (sets l at) (ap (λ (k : ℕ). last k n) e ∙ last_digits n))
@@ -159,28 +135,6 @@ whole_put l at n e h = (ap (λ (k : ℕ). at + k) e, h ∙ ap (sets l at) (ap (�
 -- the text of the decimals
 abbrev pub decimals_text : ℕ → ℕ → List ℕ
 decimals_text k n = write_fraction (fraction (trimmed (last k n)))
-
-pub fraction_none : {k n count rest : ℕ} → Cut k n count rest → count ≡ 0 → decimals_text k n ≡ []
-fraction_none {k} {n} {count} {rest} c e =
-    let d : trimmed (last k n) ≡ [] = sym c.digits ∙ ap (λ (j : ℕ). last j rest) e in
-    rw d
-
-fraction_of : (ds : List ℕ) → 1 ≤ length ds → write_fraction (fraction ds) ≡ byte "." ∷ ds
-fraction_of [] h = absurd (omega arith)
-fraction_of (d ∷ ds) h = refl
-
-pub fraction_some : {k n count rest : ℕ} → Cut k n count rest → (count ≡ 0 → ⊥) → decimals_text k n ≡ byte "." ∷ last count rest
-fraction_some {k} {n} {count} {rest} c h =
-    fraction_of (trimmed (last k n)) (omega (arith, c.many)) ∙ ap (λ (t : List ℕ). byte "." ∷ t) (sym c.digits)
-
-pub fraction_size : {k n count rest : ℕ} → Cut k n count rest → (count ≡ 0 → ⊥) → length (decimals_text k n) ≡ suc count
-fraction_size {k} {n} {count} {rest} c h = ap length (fraction_some c h) ∙ ap suc (last_length count rest)
-
-pub fraction_put : {t : List ℕ} {k n count rest : ℕ} (l : List ℕ) (at : ℕ) → Cut k n count rest → (count ≡ 0 → ⊥) → t ≡ sets (set l at (byte ".")) (at + 1) (last count rest)
-    → (at + 1 + count ≡ at + length (decimals_text k n)) × (t ≡ sets l at (decimals_text k n))
-fraction_put {t} {k} {n} {count} {rest} l at c h q =
-    let e : at + 1 ≡ suc at = omega arith in
-    (omega (arith, fraction_size c h), q ∙ rw (fraction_some c h, e))
 
 -- the text of a number by its parts
 pub size_of : (b : Bool) (n : ℕ) → nat_abs (signed b n) ≡ n
@@ -209,6 +163,3 @@ three_put {t} {t₁} {t₂} {first} {second} {third} l at a b c x ex e₁ h₁ e
   omega (arith, ap length ex, length-append a (b ++ c), length-append b c),
   h₃ ∙ rw (e₂, h₂, e₁, h₁) (sym (ap (sets l at) ex ∙ sets_append a (b ++ c) l at ∙ sets_append b c (sets l at a) (at + length a))),
 )
-
-pub fraction_small : {k n count rest : ℕ} → Cut k n count rest → count ≤ k
-fraction_small {k} {n} {count} {rest} c = omega (arith, c.many, trim_short (last k n), last_length k n)

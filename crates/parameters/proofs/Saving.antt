@@ -3,27 +3,32 @@
 use mathlib.Core.Path.{◌≡◌, refl, sym, ap, ◌∙◌}
 use mathlib.Core.Bool.{Bool, true, false, cond, not}
 use mathlib.Core.List.{List, [], ◌∷◌, ◌++◌, append_assoc}
-use Prim.Native.Nat.{ℕ, suc, ◌+◌, ◌-◌, ◌≤◌, ◌<◌}
+use Prim.Native.Nat.{ℕ, zero, suc, ◌+◌, ◌-◌, ◌/◌, ◌≤◌, ◌<◌}
 use native.Mathlib.Numerals.{add-one}
 use native.Mathlib.Omega.{arith}
-use lib.Dec.{T, eqb, leb, leb→le}
+use native.Mathlib.Decide.{dec_le}
+use native.Mathlib.Nat.{lt_of_not-le}
+use lib.Dec.{T, leb, leb→le}
 use lib.IntN.{ℤ, pos, negsuc, nat_abs}
-use lib.ListN.{length, get_or, set, drop, length-append, drop_of_length-le}
-use lib.Seq.{sets, sets-eq, drop-cons}
-use borrow.Author.Tests.{eq-eqb, ne_eqb, lt-ltb, le-ltb}
+use lib.ListN.{length, set, drop, length-append}
+use lib.Seq.{sets, sets-eq}
+use borrow.Author.Tests.{lt-ltb, le-ltb}
+use Rattle.std.specs.Prelude.{Ok, Err}
 use Rattle.laws.proofs.Bools.{and_right}
 use Rattle.grammar.specs.Bytes.{byte}
-use Rattle.grammar.specs.Grammar.{write_number}
-use Rattle.rules.specs.Numbers.{minus, signed, in_range}
-use Rattle.rules.specs.Reach.{in_order}
+use Rattle.grammar.specs.Grammar.{Sign, unsigned, plus, minus as minus_sign, spell_sign, write_fraction, write_number}
+use Rattle.rules.specs.Numbers.{minus, signed}
 use Rattle.rules.specs.Promise.{disorder}
 use Rattle.rules.specs.declared.Record.{Record}
 use Rattle.frames.proofs.Stores.{sets_append}
 use Rattle.parameters.specs.File.{Entry, write_entry}
-use Rattle.parameters.specs.Places.{stands_for, decimals, allowed, lies}
-use Rattle.parameters.specs.Writing.{digits_of, shortest, held_at, held, entry_for, said, entries_from, entries, write_file, line_for, file, Saved, all_in_range, saved}
+use Rattle.parameters.specs.Places.{stands_for, decimals, allowed, lies, trimmed}
+use Rattle.parameters.specs.Writing.{digits_of, without, last, fraction, sign_of, shortest, held_at, held, entry_for, said, entries_from, entries, write_file, line_for, file, all_in_range, saved_as, saved}
 use Rattle.parameters.specs.declared.places.Place.{Place}
 use Rattle.parameters.specs.declared.places.Place.TheVariants.{Entry as entry, Offset as offset, Origin as origin, System as system, Passed as passed}
+use Rattle.parameters.specs.declared.refusal.FileRefusal.TheVariants.{Disorder, ValueUnfit, NoRoom}
+use Rattle.parameters.proofs.Digits.{trim_short, last_length}
+use Rattle.parameters.proofs.Puts.{count_one, count_step, without_less, number_size}
 use Rattle.parameters.proofs.Held.{held_allowed}
 use Rattle.parameters.proofs.RoundTrip.{ordered}
 
@@ -118,58 +123,74 @@ module _ (r : Record) (table : List ℤ) where
 
 -- ---- all that a call leaves
 module _ (r : Record) (table : List ℤ) (out : List ℕ) where
-  pub saved_1 : disorder r table ≡ true → record { number = 1; count = 0; out = out } ≡ saved r table out
+  pub saved_1 : disorder r table ≡ true → saved_as (Err Disorder) out ≡ saved r table out
   unfolding saved
   saved_1 d = rw d
 
-  pub saved_23 : disorder r table ≡ false → all_in_range (drop 1 table) ≡ false → record { number = 23; count = 0; out = out } ≡ saved r table out
+  pub saved_23 : disorder r table ≡ false → all_in_range (drop 1 table) ≡ false → saved_as (Err ValueUnfit) out ≡ saved r table out
   unfolding saved
   saved_23 d t = rw (d, t)
 
-  pub saved_24 : disorder r table ≡ false → all_in_range (drop 1 table) ≡ true → length out < length (file r table) → record { number = 24; count = 0; out = out } ≡ saved r table out
+  pub saved_24 : disorder r table ≡ false → all_in_range (drop 1 table) ≡ true → length out < length (file r table) → saved_as (Err NoRoom) out ≡ saved r table out
   unfolding saved
   saved_24 d t h = rw (d, t, lt-ltb (length out) (length (file r table)) h)
 
   pub saved_0 : {count : ℕ} {left : List ℕ} → disorder r table ≡ false → all_in_range (drop 1 table) ≡ true → count ≡ length (file r table) → count ≤ length out → left ≡ sets out 0 (file r table)
-      → record { number = 0; count = count; out = left } ≡ saved r table out
+      → saved_as (Ok count) left ≡ saved r table out
   unfolding saved
   saved_0 {count} {left} d t e h g =
       let l : length (file r table) ≤ length out = omega arith in
       let p : sets out 0 (file r table) ≡ file r table ++ drop (length (file r table)) out = sets-eq (file r table) out 0 (omega arith) ∙ (let z : 0 + length (file r table) ≡ length (file r table) = omega arith in rw z) in
       rw (d, t, le-ltb (length out) (length (file r table)) l) (rw (e, g, p))
 
--- ---- entries in range
-module _ (table : List ℤ) (n : ℕ) (h : n < length table) where
-  pub range_fails : in_range (get_or table n (pos 0)) ≡ false → all_in_range (drop n table) ≡ false
-  range_fails e = rw (drop-cons table n (pos 0) h, e)
+few_decimals : (p : Place) → decimals p ≤ 5
+few_decimals (entry n) = omega arith
+few_decimals (offset i) = omega arith
+few_decimals (origin i) = omega arith
+few_decimals system = omega arith
+few_decimals passed = omega arith
 
-  pub range_on : in_range (get_or table n (pos 0)) ≡ true → all_in_range (drop n table) ≡ all_in_range (drop (n + 1) table)
-  range_on e = rw (drop-cons table n (pos 0) h, e, add-one n)
+-- ---- a line is short
+abbrev below : ℕ → ℕ → Type 0
+below zero n = n < 10
+below (suc j) n = below j (n / 10)
 
-pub range_ends : (table : List ℤ) (n : ℕ) → length table ≤ n → all_in_range (drop n table) ≡ true
-range_ends table n h = rw (drop_of_length-le table h)
+digits_few : (j n : ℕ) → below j n → length (digits_of n) ≤ suc j
+digits_few zero n h = omega (arith, count_one n h)
+digits_few (suc j) n h = elim (dec_le 10 n) [
+  | yes k ↦ omega (arith, count_step n k, digits_few j (n / 10) h)
+  | no k ↦ (let l : n < 10 = lt_of_not-le k in omega (arith, count_one n l))
+]
 
--- ---- tests
-pub said_amount : (n : ℕ) (z : ℤ) {size : ℕ} → size ≡ nat_abs z → (size ≡ 0 → ⊥) → true ≡ said n z
-said_amount n z e h = rw (ne_eqb (nat_abs z) 0 (λ q. h (e ∙ q)))
+digits_short : (n : ℕ) → n ≤ 1000000000 → length (digits_of n) ≤ 10
+digits_short n h = digits_few 9 n (omega arith)
 
-pub said_system : (n : ℕ) (z : ℤ) {size : ℕ} → size ≡ nat_abs z → size ≡ 0 → eqb n 5220 ≡ said n z
-said_system n z e h = rw (eq-eqb (nat_abs z) 0 (sym e ∙ h))
+sign_short : (s : Sign) → length (spell_sign s) ≤ 1
+sign_short unsigned = omega arith
+sign_short plus = omega arith
+sign_short minus_sign = omega arith
 
-pub disorder_long : (r : Record) (table : List ℤ) → (length table ≡ 5000 → ⊥) → true ≡ disorder r table
-unfolding disorder
-disorder_long r table h = rw (ne_eqb (length table) 5000 h)
+fraction_short : (ds : List ℕ) → length (write_fraction (fraction ds)) ≤ suc (length ds)
+fraction_short [] = omega arith
+fraction_short (d ∷ ds) = omega arith
 
-pub disorder_by : (r : Record) (table : List ℤ) {b : Bool} → length table ≡ 5000 → b ≡ in_order r → not b ≡ disorder r table
-unfolding disorder
-disorder_by r table h e = rw (eq-eqb (length table) 5000 h, e)
-
-pub few_decimals : (p : Place) {k : ℕ} → k ≡ decimals p → k ≤ 5
-few_decimals (entry n) e = omega arith
-few_decimals (offset i) e = omega arith
-few_decimals (origin i) e = omega arith
-few_decimals system e = omega arith
-few_decimals passed e = omega arith
+pub line_short : (n : ℕ) (z : ℤ) → n ≤ 5399 → nat_abs z ≤ 1000000000 → length (line_for n z) ≤ 32
+line_short n z h l =
+    let k = decimals (stands_for n) in
+    let m = nat_abs z in
+    let p : k ≤ 5 = few_decimals (stands_for n) in
+    let w : without k m ≤ m = without_less k m in
+    omega (
+      arith,
+      line_length n z (ap (λ (x : ℤ). write_number (shortest k x)) (number_is z)),
+      number_size k (minus z) m,
+      digits_short n (omega arith),
+      digits_short (without k m) (omega arith),
+      sign_short (sign_of (minus (signed (minus z) m))),
+      fraction_short (trimmed (last k m)),
+      trim_short (last k m),
+      last_length k m,
+    )
 
 -- ---- a turn of the loop that puts the lines: what is put and what is still to be put come to the same
 pub put_on : {t : List ℕ} {to : ℕ} {all : List ℕ} (l : List ℕ) (at : ℕ) (line rest : List ℕ) → t ≡ sets l at line → to ≡ at + length line → all ≡ line ++ rest → sets t to rest ≡ sets l at all
@@ -177,6 +198,3 @@ put_on l at line rest e h g = rw (e, h, g) (sym (sets_append line rest l at))
 
 pub none_on : {t : List ℕ} {to : ℕ} {all : List ℕ} (l : List ℕ) (at : ℕ) (rest : List ℕ) → t ≡ l → to ≡ at → all ≡ rest → sets t to rest ≡ sets l at all
 none_on l at rest e h g = rw (e, h, g)
-
-pub saved_as : {number count n : ℕ} (out : List ℕ) → number ≡ n → count ≡ 0 → ◌≡◌ {A = Saved} (record { number = number; count = count; out = out }) (record { number = n; count = 0; out = out })
-saved_as out e h = rw (e, h)

@@ -1,5 +1,6 @@
 pub mod File
 pub mod Places
+pub mod Refusal
 pub mod Reading
 pub mod Writing
 pub mod Text

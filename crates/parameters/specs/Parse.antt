@@ -1,6 +1,6 @@
 -- A reader of one line, the proofs' tool and no part of the rules. No public contract cites it.
 -- Assumes nothing.
-use Rattle.std.specs.Prelude.{cond, ◌&&◌, List, [], ◌∷◌, ℕ, leb, length, drop}
+use Rattle.std.specs.Prelude.{cond, ◌&&◌, List, [], ◌∷◌, ℕ, leb, length}
 use Rattle.std.proofs.Math.Option.{Option, none, some}
 use Rattle.grammar.specs.Grammar.{Number, digit}
 use Rattle.grammar.specs.Derivation.{blank}
@@ -32,9 +32,9 @@ abbrev pub parsed : List (List ℕ) → List (Option Entry)
 parsed [] = []
 parsed (l ∷ ls) = parse l ∷ parsed ls
 
--- the derivations of the lines from a place on, and the entries there
-unfoldable pub trees : List ℕ → ℕ → List (Option Entry)
-trees text at = parsed (lines (drop at text))
+-- the derivations of a text's lines, and the entries there
+unfoldable pub trees : List ℕ → List (Option Entry)
+trees text = parsed (lines text)
 
-abbrev pub entries_at : List ℕ → ℕ → List Entry
-entries_at text at = derived (trees text at)
+abbrev pub entries_of : List ℕ → List Entry
+entries_of text = derived (trees text)

@@ -33,6 +33,10 @@ offset_number i = 5211 + i
 abbrev pub origin_number : ℕ → ℕ
 origin_number i = 5221 + (20 * (i / 3) + i % 3)
 
+-- of lengths whose first has a number: three axes to each twenty
+abbrev pub number_from : ℕ → ℕ → ℕ
+number_from first i = first + (20 * (i / 3) + i % 3)
+
 -- "with up to four decimals", "in mm with up to five decimals" (a count is the fifth of them); a system is whole
 abbrev pub decimals : Place → ℕ
 decimals (entry n) = 4

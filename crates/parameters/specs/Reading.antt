@@ -1,9 +1,10 @@
 -- What reading a parameter file leaves.
 -- Assumes nothing.
-use Rattle.std.specs.Prelude.{◌≡◌, cond, not, List, [], ◌∷◌, map, ℕ, zero, suc, ◌-◌, eqb, ltb, get_or, ℤ, pos, nat_abs}
+use Rattle.std.specs.Prelude.{◌≡◌, cond, not, List, [], ◌∷◌, map, ℕ, zero, suc, ◌-◌, eqb, ltb, get_or, ℤ, pos, nat_abs, Option as Numbered, Some, None, Result, Ok, Err}
+use Rattle.std.specs.Option.{option_map}
 use Rattle.std.proofs.Math.Option.{Option, none, some}
 use Rattle.rules.specs.Meaning.{decimal}
-use Rattle.rules.specs.Codes.{systems, further}
+use Rattle.rules.specs.Codes.{systems}
 use Rattle.rules.specs.Reach.{counts}
 use Rattle.rules.specs.With.{with_origins, with_offset, with_system}
 use Rattle.rules.specs.Refusals.{◌when◌, first}
@@ -12,6 +13,8 @@ use Rattle.rules.specs.Frames.{lines}
 use Rattle.rules.specs.declared.Length.{Length}
 use Rattle.rules.specs.declared.Record.{Record}
 use Rattle.parameters.specs.File.{Entry, Tells}
+use Rattle.parameters.specs.Refusal.{refusal_number}
+use Rattle.parameters.specs.declared.refusal.FileRefusal.{FileRefusal}
 use Rattle.parameters.specs.Places.{stands_for, offset_number, origin_number, lies, decimals, value_in, unfit}
 
 -- ---- refusals
@@ -42,13 +45,13 @@ abbrev pub refusal : ℕ → List (Option Entry) → ℕ
 refusal least [] = 0
 refusal least (o ∷ os) = or_else (line_refusal least o) (refusal (risen o) os)
 
--- which line that is, counted from 1; 0 where none has one
-abbrev pub by_line : ℕ → ℕ → ℕ
-by_line zero later = further later
-by_line (suc n) later = 1
+-- which line that is, counted from 1; none where none has one
+abbrev pub by_line : ℕ → Numbered ℕ → Numbered ℕ
+by_line zero later = option_map suc later
+by_line (suc n) later = Some 1
 
-abbrev pub refused_line : ℕ → List (Option Entry) → ℕ
-refused_line least [] = 0
+abbrev pub refused_line : ℕ → List (Option Entry) → Numbered ℕ
+refused_line least [] = None
 refused_line least (o ∷ os) = by_line (line_refusal least o) (refused_line (risen o) os)
 
 -- ---- what an accepted file gives
@@ -104,6 +107,11 @@ pub record Loaded : Type 0 where
   pub rec : Record
   pub table : List ℤ
 
+-- the same as an answer: the record as the file leaves it, or why the file is refused
+abbrev pub loaded_as : Result Record FileRefusal → Record → List ℤ → Loaded
+loaded_as (Ok left) r table = record { number = 0; rec = left; table = table }
+loaded_as (Err why) r table = record { number = refusal_number why; rec = r; table = table }
+
 -- "A refused file changes neither"
 abbrev pub by_number : ℕ → List Entry → Record → List ℤ → Loaded
 by_number zero es r table = record { number = 0; rec = record_from es r; table = table_from es table }
@@ -124,5 +132,5 @@ abbrev pub Loads : List ℕ → Record → List ℤ → Loaded → Type 0
 Loads text r table after = (tree : List ℕ → Option Entry) → Tells tree → after ≡ loaded tree text r table
 
 -- likewise the first line that is refused for what it says
-abbrev pub FirstRefused : List ℕ → ℕ → Type 0
+abbrev pub FirstRefused : List ℕ → Numbered ℕ → Type 0
 FirstRefused text line = (tree : List ℕ → Option Entry) → Tells tree → line ≡ refused_line 0 (map tree (lines text))

@@ -1,6 +1,7 @@
 -- What writing a parameter file leaves.
 -- Assumes nothing.
-use Rattle.std.specs.Prelude.{Bool, true, false, cond, not, ◌&&◌, ◌||◌, List, [], ◌∷◌, ◌++◌, ℕ, zero, suc, ◌+◌, ◌/◌, ◌%◌, eqb, ltb, length, get_or, drop, ℤ, pos, nat_abs}
+use Rattle.std.specs.Prelude.{Bool, true, false, cond, not, ◌||◌, List, [], ◌∷◌, ◌++◌, ℕ, zero, suc, ◌+◌, ◌/◌, ◌%◌, eqb, ltb, length, get_or, drop, ℤ, pos, nat_abs, Result, Ok, Err}
+use Rattle.std.specs.List.{list_all}
 use Rattle.grammar.specs.Bytes.{byte, bytes}
 use Rattle.grammar.specs.Grammar.{Sign, unsigned, minus, Fraction, whole, point, Number, num}
 use Rattle.rules.specs.Numbers.{minus as below, in_range, is_true}
@@ -10,6 +11,8 @@ use Rattle.rules.specs.Refusals.{◌when◌, first}
 use Rattle.rules.specs.Promise.{disorder}
 use Rattle.rules.specs.declared.Record.{Record}
 use Rattle.parameters.specs.File.{Entry, write_entry}
+use Rattle.parameters.specs.Refusal.{refusal_number}
+use Rattle.parameters.specs.declared.refusal.FileRefusal.{FileRefusal}
 use Rattle.parameters.specs.Places.{stands_for, decimals, trimmed}
 use Rattle.parameters.specs.declared.places.Place.{Place}
 use Rattle.parameters.specs.declared.places.Place.TheVariants.{Entry as entry, Offset as offset, Origin as origin, System as system, Passed as passed}
@@ -99,9 +102,13 @@ pub record Saved : Type 0 where
   pub count : ℕ
   pub out : List ℕ
 
+-- the same as an answer: how many bytes the file has, or why it is not written
+abbrev pub saved_as : Result ℕ FileRefusal → List ℕ → Saved
+saved_as (Ok count) out = record { number = 0; count = count; out = out }
+saved_as (Err why) out = record { number = refusal_number why; count = 0; out = out }
+
 abbrev pub all_in_range : List ℤ → Bool
-all_in_range [] = true
-all_in_range (z ∷ zs) = in_range z && all_in_range zs
+all_in_range zs = list_all in_range zs
 
 -- "1, then 23 if an entry from 1 to 4999 is out of range, then 24 output space too small"
 abbrev pub save_refusal : Record → List ℤ → ℕ → ℕ

@@ -2,11 +2,14 @@
 // from them. What a file says is in specs/, what follows from that in proofs/.
 #![tactic(auto)]
 
+mod accepted;
 mod lines;
 mod load;
 mod numerals;
 mod places;
+mod refusal;
 mod save;
 
-pub use load::{Loaded, read, refused_line};
-pub use save::{Written, write};
+pub use load::{read, refused_line};
+pub use refusal::FileRefusal;
+pub use save::write;

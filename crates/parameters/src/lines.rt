@@ -1,253 +1,142 @@
-// One line of a parameter file: where it ends, the number and the value that it writes, and what is wrong with it.
-ghost use Rattle.std.specs.Prelude.{◌≡◌, true, ◌++◌, ◌+◌, ◌-◌, ◌*◌, ◌≤◌, ◌<◌, min, length, drop, replicate};
+// One line of a parameter file: the number and the value that it writes, and what is wrong with it.
+ghost use Rattle.std.specs.Prelude.{◌≡◌, true, ◌++◌, ◌+◌, ◌-◌, ◌*◌, ◌≤◌, min, length, replicate};
 ghost use Rattle.std.proofs.Math.Option.{some};
-ghost use Rattle.std.proofs.Math.Seq.{slice};
 ghost use Rattle.grammar.specs.Bytes.{byte};
 ghost use Rattle.grammar.specs.Grammar.{Number, digit};
 ghost use Rattle.grammar.specs.Derivation.{blank};
-ghost use Rattle.grammar.proofs.Read.{take_while, read_number};
+ghost use Rattle.std.specs.List.{take_while as front_while};
+ghost use Rattle.grammar.proofs.Read.{read_number};
 ghost use Rattle.rules.specs.Numbers.{signed};
 ghost use Rattle.rules.specs.Meaning.{decimal};
-ghost use Rattle.rules.specs.Frames.{without_return};
 ghost use Rattle.parameters.specs.Places.{trimmed, filled, allowed, judged};
 ghost use Rattle.parameters.specs.File.{Entry};
 ghost use Rattle.parameters.specs.Reading.{number_of};
 ghost use Rattle.parameters.specs.Parse.{alone, parse};
-ghost use Rattle.parameters.specs.Told.{LineAt, SignAt, PartsOf, ParsedAs, valued_by, SaidAs};
+ghost use Rattle.parameters.specs.Told.{SignOf, FractionAs, PartsOf, ParsedAs, valued_by, SaidAs};
 
 use super::places::{Place, decimals, stands_for};
+use super::refusal::FileRefusal;
+use text::bytes::{is_blank, is_digit};
 
-// Where a line ends, without its line feed and one carriage return before that, and where the next begins.
+// Whether there is a minus sign, and what stands behind the sign. (`reader` asks likewise at a place of a line that it
+// keeps whole; here the line is taken apart, and a place would be no plainer.)
 #[derive(Clone, Copy)]
-pub struct Line {
-    pub end: usize,
-    pub next: usize,
+struct Signed<'a> {
+    negative: bool,
+    behind: &'a [u8],
 }
 
-// Whether there is a minus sign, and the place past the sign.
+// The parts of a number: its sign, the digits before the point, and those behind it that count.
 #[derive(Clone, Copy)]
-pub struct Signed {
-    pub negative: bool,
-    pub next: usize,
+struct Parts<'a> {
+    negative: bool,
+    whole: &'a [u8],
+    decimals: &'a [u8],
 }
 
-// Where the digits before the point stand, and those behind it that count.
+// What a line says: a parameter number and its value, 0 where that is passed over.
 #[derive(Clone, Copy)]
-pub struct Parts {
-    pub negative: bool,
-    pub from: usize,
-    pub whole: usize,
-    pub first: usize,
-    pub last: usize,
+pub struct Said {
+    pub number: usize,
+    pub value: i64,
 }
 
-#[derive(Clone, Copy)]
-pub enum Parsed {
-    Number(Parts),
-    Wrong,
-}
-
-// A number's value in units of its last decimal, where it is one of those allowed.
-#[derive(Clone, Copy)]
-pub enum Valued {
-    Worth(i64),
-    Unfit,
-}
-
-// What a line says: a parameter number and its value (0 where that is passed over), or why it is refused.
-#[derive(Clone, Copy)]
-pub enum Said {
-    Gives(usize, i64),
-    Refused(u8),
-}
-
-// Where a line ends that a line feed has ended: one carriage return is dropped.
-fn without_return(text: &[u8], at: usize, end: usize) -> usize
-    requires { (at ≤ end) × (end ≤ length text.now) }
-    ensures { (at ≤ result) × (result ≤ end) × (slice at result text.now ≡ without_return (slice at end text.now)) }
+// How many digits stand at the front. (One function for this and the next, told the class by a closure, would need more
+// words for what it is told than the two lines have.)
+fn front_digits(text: &[u8]) -> usize
+    ensures { result ≡ length (front_while digit text.now) }
 {
-    if end == at {
-        return end;
-    }
-    if text[end - 1] == b'\r' {
-        return end - 1;
-    }
-    end
+    text.iter().take_while(|b| is_digit(**b)).count()
 }
 
-// The line at a place.
-pub(crate) fn next_line(text: &[u8], at: usize) -> Line
-    requires { at < length text.now }
-    ensures { LineAt text.now at result }
+// How many blanks stand at the front.
+fn front_blanks(text: &[u8]) -> usize
+    ensures { result ≡ length (front_while blank text.now) }
 {
-    let mut i = at;
-    while i < text.len() {
-        if text[i] == b'\n' {
-            return Line {
-                end: without_return(text, at, i),
-                next: i + 1,
-            };
-        }
-        i += 1;
-    }
-    Line { end: i, next: i }
+    text.iter().take_while(|b| is_blank(**b)).count()
 }
 
-// The place past the digits from here on.
-fn digits_end(line: &[u8], at: usize) -> usize
-    requires { at ≤ length line.now }
-    ensures { (result ≡ at + length (take_while digit (drop at line.now))) × (result ≤ length line.now) }
+fn sign_of(text: &[u8]) -> Signed
+    ensures { SignOf text.now result }
 {
-    let mut i = at;
-    while i < line.len() {
-        let b = line[i];
-        if b < b'0' {
-            return i;
-        }
-        if b'9' < b {
-            return i;
-        }
-        i += 1;
-    }
-    i
-}
-
-fn is_blank(b: u8) -> bool
-    ensures { result ≡ blank b }
-{
-    match b {
-        b' ' => true,
-        b'\t' => true,
-        _ => false,
-    }
-}
-
-// The place past the blanks from here on.
-fn blanks_end(line: &[u8], at: usize) -> usize
-    requires { at ≤ length line.now }
-    ensures { (result ≡ at + length (take_while blank (drop at line.now))) × (result ≤ length line.now) }
-{
-    let mut i = at;
-    while i < line.len() {
-        if !is_blank(line[i]) {
-            return i;
-        }
-        i += 1;
-    }
-    i
-}
-
-fn sign_at(line: &[u8], at: usize) -> Signed
-    requires { at ≤ length line.now }
-    ensures { SignAt line.now at result }
-{
-    if line.len() <= at {
-        return Signed {
+    match text {
+        [b'+', behind @ ..] => Signed {
             negative: false,
-            next: at,
-        };
-    }
-    match line[at] {
-        b'+' => Signed {
-            negative: false,
-            next: at + 1,
+            behind,
         },
-        b'-' => Signed {
+        [b'-', behind @ ..] => Signed {
             negative: true,
-            next: at + 1,
+            behind,
         },
         _ => Signed {
             negative: false,
-            next: at,
+            behind: text,
         },
     }
 }
 
-// The place past the last digit that is not 0.
-fn trimmed_end(line: &[u8], from: usize, to: usize) -> usize
-    requires { (from ≤ to) × (to ≤ length line.now) }
-    ensures { (from ≤ result) × (result ≤ to) × (slice from result line.now ≡ trimmed (slice from to line.now)) }
+// Digits without the zeros at their end.
+fn trimmed(digits: &[u8]) -> &[u8]
+    ensures { result.now ≡ trimmed digits.now }
 {
-    let mut end = to;
-    while from < end {
-        if line[end - 1] != b'0' {
-            return end;
-        }
-        end -= 1;
+    let mut rest = digits;
+    while let [front @ .., b'0'] = rest {
+        rest = front;
     }
-    end
+    rest
 }
 
-// The parts of the number that stands from here to the line's end.
-fn number_at(line: &[u8], at: usize) -> Parsed
-    requires { at ≤ length line.now }
-    ensures { ParsedAs line.now result (alone (read_number (drop at line.now))) }
+// The digits behind the point, where a text is a point and digits, or nothing.
+fn decimals_in(text: &[u8]) -> Option<&[u8]>
+    ensures { FractionAs text.now result }
 {
-    let sign = sign_at(line, at);
-    let from = sign.next;
-    let whole = digits_end(line, from);
-    if whole == line.len() {
-        if whole == from {
-            return Parsed::Wrong;
+    match text {
+        [] => Some(text),
+        [b'.', decimals @ ..] => {
+            let (digits, behind) = decimals.split_at(front_digits(decimals));
+            if behind.is_empty() {
+                Some(digits)
+            } else {
+                None
+            }
         }
-        return Parsed::Number(Parts {
-            negative: sign.negative,
-            from,
-            whole,
-            first: whole,
-            last: whole,
-        });
+        _ => None,
     }
-    if line[whole] != b'.' {
-        return Parsed::Wrong;
+}
+
+// The parts of the number that a text is; none where it is no number.
+fn number_in(text: &[u8]) -> Option<Parts>
+    ensures { ParsedAs result (alone (read_number text.now)) }
+{
+    let Signed { negative, behind } = sign_of(text);
+    let (whole, behind) = behind.split_at(front_digits(behind));
+    let decimals = decimals_in(behind)?;
+    if whole.len() + decimals.len() == 0 {
+        return None;
     }
-    let first = whole + 1;
-    let end = digits_end(line, first);
-    if end != line.len() {
-        return Parsed::Wrong;
-    }
-    if end == from + 1 {
-        return Parsed::Wrong;
-    }
-    Parsed::Number(Parts {
-        negative: sign.negative,
-        from,
+    Some(Parts {
+        negative,
         whole,
-        first,
-        last: trimmed_end(line, first, end),
+        decimals: trimmed(decimals),
     })
 }
 
 // A number with one digit more, held at ten thousand million, which is past every range.
 fn with_digit(number: u64, digit: u8) -> u64
-    requires { number ≤ 10000000000 }
     ensures { result ≡ min 10000000000 (number * 10 + (digit - byte "0")) }
 {
-    if digit < b'0' {
-        return held(number * 10);
-    }
-    held(number * 10 + (digit - b'0') as u64)
+    number
+        .saturating_mul(10)
+        .saturating_add(u64::from(digit.saturating_sub(b'0')))
+        .min(10_000_000_000)
 }
 
-fn held(number: u64) -> u64
-    ensures { result ≡ min 10000000000 number }
+// What digits write behind a number, held likewise.
+fn worth(digits: &[u8], number: u64) -> u64
+    requires { number ≤ 10000000000 }
+    ensures { result ≡ min 10000000000 (decimal number digits.now) }
 {
-    if number < 10_000_000_000 {
-        return number;
-    }
-    10_000_000_000
-}
-
-// What the digits of a part of the line write behind a number, held likewise.
-fn worth(line: &[u8], from: usize, to: usize, number: u64) -> u64
-    requires { (from ≤ to) × (to ≤ length line.now) × (number ≤ 10000000000) }
-    ensures { result ≡ min 10000000000 (decimal number (slice from to line.now)) }
-{
-    let mut n = number;
-    for i in from..to {
-        n = with_digit(n, line[i]);
-    }
-    n
+    digits.iter().fold(number, |n, d| with_digit(n, *d))
 }
 
 // What so many zeros write behind a number, held likewise.
@@ -256,31 +145,19 @@ fn with_zeros(number: u64, many: usize) -> u64
     ensures { result ≡ min 10000000000 (decimal number (replicate many (byte "0"))) }
 {
     let mut n = number;
-    let mut left = many;
-    while left > 0 {
+    for _zero in 0..many {
         n = with_digit(n, b'0');
-        left -= 1;
     }
     n
 }
 
 // The size of a number in units of the last of so many decimals, held likewise.
-fn size_in(line: &[u8], parts: Parts, decimals: usize) -> u64
-    requires { (parts.from ≤ parts.whole) × (parts.whole ≤ length line.now) × (parts.first ≤ parts.last) × (parts.last ≤ length line.now) × (parts.last - parts.first ≤ decimals) }
-    ensures { result ≡ min 10000000000 (decimal 0 (slice parts.from parts.whole line.now ++ filled decimals (slice parts.first parts.last line.now))) }
+fn size_in(parts: Parts, decimals: usize) -> u64
+    requires { length parts.decimals.now ≤ decimals }
+    ensures { result ≡ min 10000000000 (decimal 0 (parts.entry.whole.now ++ filled decimals parts.entry.decimals.now)) }
 {
-    let whole = worth(line, parts.from, parts.whole, 0);
-    let all = worth(line, parts.first, parts.last, whole);
-    with_zeros(all, decimals - (parts.last - parts.first))
-}
-
-fn is_system(negative: bool, size: u64) -> bool
-    ensures { result ≡ allowed Place.System (signed negative size) }
-{
-    if negative {
-        return false;
-    }
-    1 <= size && size <= 9
+    let all = worth(parts.decimals, worth(parts.whole, 0));
+    with_zeros(all, decimals - parts.decimals.len())
 }
 
 // Whether a value is one of those allowed at a place.
@@ -289,89 +166,72 @@ fn is_allowed(place: Place, negative: bool, size: u64) -> bool
 {
     match place {
         Place::Entry(_) => size <= 999_999_999,
-        Place::Offset(_) => size <= 1_000_000_000,
-        Place::Origin(_) => size <= 1_000_000_000,
-        Place::System => is_system(negative, size),
+        Place::Offset(_) | Place::Origin(_) => size <= 1_000_000_000,
+        Place::System => !negative && matches!(size, 1..=9),
         Place::Passed => true,
     }
 }
 
-fn is_judged(place: Place) -> bool
-    ensures { result ≡ judged place }
-{
-    match place {
-        Place::Entry(_) => true,
-        Place::Offset(_) => true,
-        Place::Origin(_) => true,
-        Place::System => true,
-        Place::Passed => false,
-    }
-}
-
+// The number of a sign and a size. (As inside `value`, which makes a value of them and not a number; no plainer by way of
+// that.)
 fn with_sign(negative: bool, size: u64) -> i64
     requires { size ≤ 10000000000 }
     ensures { result ≡ signed negative size }
 {
     let z = size as i64;
-    if negative { 0 - z } else { z }
+    if negative { -z } else { z }
 }
 
-// The value of a number at a place.
-fn value_for(line: &[u8], parts: Parts, place: Place) -> Valued
-    requires { (parts.from ≤ parts.whole) × (parts.whole ≤ length line.now) × (parts.first ≤ parts.last) × (parts.last ≤ length line.now) × (judged place ≡ true) }
-    ensures { (x : Number) → PartsOf line.now parts x → result ≡ valued_by place x }
+// The value of a number at a place that is not passed over.
+fn value_for(parts: Parts, place: Place) -> Result<i64, FileRefusal>
+    requires { judged place ≡ true }
+    ensures { (x : Number) → PartsOf parts.entry x → result ≡ valued_by place x }
 {
     let places = decimals(place);
-    if places < parts.last - parts.first {
-        return Valued::Unfit;
+    if places < parts.decimals.len() {
+        return Err(FileRefusal::ValueUnfit);
     }
-    let size = size_in(line, parts, places);
+    let size = size_in(parts, places);
     if !is_allowed(place, parts.negative, size) {
-        return Valued::Unfit;
+        return Err(FileRefusal::ValueUnfit);
     }
-    Valued::Worth(with_sign(parts.negative, size))
+    Ok(with_sign(parts.negative, size))
 }
 
 // What a line of right form says.
-fn judged(line: &[u8], number: u64, parts: Parts, least: usize) -> Said
-    requires { (parts.from ≤ parts.whole) × (parts.whole ≤ length line.now) × (parts.first ≤ parts.last) × (parts.last ≤ length line.now) × (least ≤ 5400) }
-    ensures { (e : Entry) → number ≡ min 10000000000 (number_of e) → PartsOf line.now parts e.value → SaidAs least result (some e) }
+fn judged(number: u64, parts: Parts, least: usize) -> Result<Said, FileRefusal>
+    requires { least ≤ 5400 }
+    ensures { (e : Entry) → number ≡ min 10000000000 (number_of e) → PartsOf parts.entry e.value → SaidAs least result (some e) }
 {
     if number < least as u64 {
-        return Said::Refused(21);
+        return Err(FileRefusal::NotRising);
     }
-    if number < 1 {
-        return Said::Refused(22);
+    if number < 1 || 5399 < number {
+        return Err(FileRefusal::NumberOutOfRange);
     }
-    if 5399 < number {
-        return Said::Refused(22);
-    }
-    let n = number as usize;
-    let place = stands_for(n);
-    if !is_judged(place) {
-        return Said::Gives(n, 0);
-    }
-    match value_for(line, parts, place) {
-        Valued::Worth(value) => Said::Gives(n, value),
-        Valued::Unfit => Said::Refused(23),
-    }
+    let number = number as usize;
+    let value = match stands_for(number) {
+        Place::Passed => 0,
+        place => value_for(parts, place)?,
+    };
+    Ok(Said { number, value })
 }
 
 // What a line says, once one more than the number before it is known.
-pub(crate) fn read_line(line: &[u8], least: usize) -> Said
+pub(crate) fn read_line(line: &[u8], least: usize) -> Result<Said, FileRefusal>
     requires { least ≤ 5400 }
     ensures { SaidAs least result (parse line.now) }
 {
-    let digits = digits_end(line, 0);
-    if digits == 0 {
-        return Said::Refused(20);
+    let (digits, behind) = line.split_at(front_digits(line));
+    let (blanks, value) = behind.split_at(front_blanks(behind));
+    if digits.is_empty() {
+        return Err(FileRefusal::Malformed);
     }
-    let value = blanks_end(line, digits);
-    if value == digits {
-        return Said::Refused(20);
+    if blanks.is_empty() {
+        return Err(FileRefusal::Malformed);
     }
-    match number_at(line, value) {
-        Parsed::Number(parts) => judged(line, worth(line, 0, digits, 0), parts, least),
-        Parsed::Wrong => Said::Refused(20),
+    match number_in(value) {
+        Some(parts) => judged(worth(digits, 0), parts, least),
+        None => Err(FileRefusal::Malformed),
     }
 }

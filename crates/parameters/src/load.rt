@@ -1,218 +1,150 @@
 // A parameter file read into a record and a table.
-ghost use Rattle.std.specs.Prelude.{◌≡◌, true, ◌+◌, ◌≤◌, pos, length};
-ghost use Rattle.parameters.specs.Places.{stands_for, judged, offset_number, origin_number};
-ghost use Rattle.parameters.specs.Reading.{refusal, unsaid, renewed, table_from, length_from, system_code, Loads, FirstRefused};
-ghost use Rattle.parameters.specs.Parse.{trees, entries_at};
-ghost use Rattle.parameters.specs.Told.{Remains, GivenAt};
+ghost use Rattle.std.specs.Prelude.{◌≡◌, true, [], ℕ, ◌≤◌, ◌<◌, length, MatchOption};
+ghost use Rattle.parameters.specs.Places.{stands_for, judged, number_from};
+ghost use Rattle.parameters.specs.Reading.{unsaid, renewed, table_from, length_from, system_code, loaded_as, Loads, FirstRefused};
+ghost use Rattle.parameters.specs.Parse.{entries_of};
+ghost use Rattle.parameters.specs.Told.{FirstLine, JudgedAs, AcceptedAs, Remains, GivenFrom};
 
-use super::lines::{Said, next_line, read_line};
+use super::accepted::Lines;
+use super::lines::read_line;
+use super::refusal::FileRefusal;
 use super::save::is_disordered;
 use rules::{Length, Record};
 
-// The refusal, 0 for an accepted file, and the record as the file leaves it.
+// A line that is refused, counted from 1, and why.
 #[derive(Clone, Copy)]
-pub struct Loaded {
-    pub number: u8,
-    pub rec: Record,
+pub struct RefusedLine {
+    pub line: usize,
+    pub why: FileRefusal,
 }
 
-// What the file gives a number, and the place to go on from for the numbers behind it.
-#[derive(Clone, Copy)]
-pub struct Given {
-    pub value: i64,
-    pub next: usize,
-}
-
-// The G92 offset from the file, and the place to go on from.
-#[derive(Clone, Copy)]
-pub struct Offset {
-    pub lengths: [Length; 3],
-    pub next: usize,
-}
-
-// The refusal of the first line that has one, 0 where none has. Nothing is changed while a file is judged.
-fn judge(text: &[u8]) -> u8
-    ensures { result ≡ refusal 0 (trees text.now 0) }
+// The first line of a text, and what stands behind it; none at the text's end.
+fn cut_line(text: &[u8]) -> Option<(&[u8], &[u8])>
+    ensures { MatchOption result (text.now ≡ []) (λ cut. FirstLine text.now cut.0.now cut.1.now) }
 {
-    let mut at = 0;
-    let mut least = 0;
-    while at < text.len() {
-        let line = next_line(text, at);
-        let end = line.end;
-        match read_line(&text[at..end], least) {
-            Said::Gives(number, _) => {
-                least = number + 1;
-                at = line.next;
-            }
-            Said::Refused(number) => return number,
-        }
+    if text.is_empty() {
+        return None;
     }
-    0
+    let span = texts::line_at(text, 0);
+    Some((&text[..span.end], &text[span.next..]))
 }
 
-// The first line that is refused for what it says, counted from 1; 0 where none is.
-pub fn refused_line(text: &[u8]) -> usize
+// The first line that is refused for what it says. Nothing is changed while a file is judged.
+fn first_refused(text: &[u8]) -> Option<RefusedLine>
+    ensures { JudgedAs text.now result }
+{
+    let mut rest = text;
+    let mut least = 0;
+    let mut line = 0;
+    while let Some((front, behind)) = cut_line(rest) {
+        line += 1;
+        match read_line(front, least) {
+            Ok(said) => least = said.number + 1,
+            Err(why) => return Some(RefusedLine { line, why }),
+        }
+        rest = behind;
+    }
+    None
+}
+
+// The first line that is refused for what it says, counted from 1.
+pub fn refused_line(text: &[u8]) -> Option<usize>
     ensures { FirstRefused text.now result }
 {
-    let mut at = 0;
-    let mut least = 0;
-    let mut place = 0;
-    while at < text.len() {
-        let line = next_line(text, at);
-        let end = line.end;
-        place += 1;
-        match read_line(&text[at..end], least) {
-            Said::Gives(number, _) => {
-                least = number + 1;
-                at = line.next;
-            }
-            Said::Refused(_) => return place,
-        }
+    first_refused(text).map(|refused| refused.line)
+}
+
+// The lines of a file, where none of them is refused.
+fn accepted(text: &[u8]) -> Result<Lines, FileRefusal>
+    ensures { AcceptedAs text.now result }
+{
+    match first_refused(text) {
+        Some(refused) => Err(refused.why),
+        None => Ok(Lines { rest: text }),
     }
-    0
 }
 
 // What a file means that does not say a number: 0, and system 1.
 fn unsaid(number: usize) -> i64
     ensures { result ≡ unsaid number }
 {
-    if number == 5220 {
-        return 1;
-    }
-    0
+    i64::from(number == 5220)
 }
 
-// What the file gives a number, from a place on. Numbers rise, so that every line is passed but once.
-fn value_at(text: &[u8], at: usize, number: usize) -> Given
-    requires { (at ≤ length text.now) × (refusal 0 (trees text.now at) ≡ 0) × (judged (stands_for number) ≡ true) }
-    ensures { GivenAt text.now at number result }
-{
-    let mut i = at;
-    while i < text.len() {
-        let line = next_line(text, i);
-        let end = line.end;
-        match read_line(&text[i..end], 0) {
-            Said::Gives(found, value) => {
-                if number < found {
-                    return Given {
-                        value: unsaid(number),
-                        next: i,
-                    };
-                }
-                if found == number {
-                    return Given {
-                        value,
-                        next: line.next,
-                    };
-                }
-                i = line.next;
+impl Lines<'_> {
+    // What the file gives a number. Numbers rise, so that every line is passed but once: from here on the numbers behind
+    // this one can be asked for.
+    fn value(&mut self, number: usize) -> i64
+        requires { judged (stands_for number) ≡ true }
+        ensures { GivenFrom self.old.rest.now number result self.new.rest.now }
+    {
+        while let Some((line, behind)) = cut_line(self.rest) {
+            // No line of an accepted file is refused.
+            let Ok(said) = read_line(line, 0) else {
+                return unsaid(number);
+            };
+            if number < said.number {
+                return unsaid(number);
             }
-            Said::Refused(_) => {
-                return Given {
-                    value: unsaid(number),
-                    next: i,
-                }
+            self.rest = behind;
+            if said.number == number {
+                return said.value;
             }
         }
+        unsaid(number)
     }
-    Given {
-        value: unsaid(number),
-        next: i,
-    }
-}
 
-// Sets entries 1 to 4999 of the table from the file, and tells the place to go on from.
-fn fill_table(text: &[u8], table: &mut [i64]) -> usize
-    requires { (length table.old ≡ 5000) × (refusal 0 (trees text.now 0) ≡ 0) }
-    ensures { (table.new ≡ table_from (entries_at text.now 0) table.old) × Remains text.now 0 result 5000 }
-{
-    let mut at = 0;
-    for n in 1..5000 {
-        let given = value_at(text, at, n);
-        let value = given.value;
-        table[n] = value;
-        at = given.next;
+    // Sets entries 1 to 4999 of the table.
+    fn fill_table(&mut self, table: &mut [i64])
+        requires { length table.old ≡ 5000 }
+        ensures { (table.new ≡ table_from (entries_of self.old.rest.now) table.old) × Remains self.old.rest.now self.new.rest.now 5000 }
+    {
+        for n in 1..5000 {
+            table[n] = self.value(n);
+        }
     }
-    at
-}
 
-// The G92 offset from the file.
-fn fill_offset(text: &[u8], from: usize, old: [Length; 3]) -> Offset
-    requires { Remains text.now 0 from 5000 }
-    ensures { (result.lengths ≡ renewed (length_from (entries_at text.now 0) offset_number) 0 old) × Remains text.now 0 result.next 5214 }
-{
-    let mut lengths = old;
-    let mut at = from;
-    for axis in 0..3 {
-        let given = value_at(text, at, 5211 + axis);
-        lengths[axis] = Length(given.value);
-        at = given.next;
+    // Sets lengths by the numbers from one on: three axes to each twenty.
+    fn fill_lengths(&mut self, lengths: &mut [Length], first: usize)
+        requires small { (first ≤ 5221) × (length lengths.old ≤ 27) }
+        requires served { (i : ℕ) → i < length lengths.old → judged (stands_for (number_from first i)) ≡ true }
+        ensures set { lengths.new ≡ renewed (length_from (entries_of self.old.rest.now) (number_from first)) 0 lengths.old }
+        ensures rest { (m : ℕ) → ((i : ℕ) → i < length lengths.old → number_from first i < m) → Remains self.old.rest.now self.new.rest.now m }
+    {
+        for (i, amount) in lengths.iter_mut().enumerate() {
+            *amount = Length(self.value(first + (20 * (i / 3) + i % 3)));
+        }
     }
-    Offset {
-        lengths: lengths,
-        next: at,
-    }
-}
-
-// The origins from the file.
-fn fill_origins(text: &[u8], from: usize, old: [Length; 27]) -> [Length; 27]
-    requires { Remains text.now 0 from 5221 }
-    ensures { result ≡ renewed (length_from (entries_at text.now 0) origin_number) 0 old }
-{
-    let mut lengths = old;
-    let mut at = from;
-    for i in 0..27 {
-        let given = value_at(text, at, 5221 + 20 * (i / 3) + i % 3);
-        lengths[i] = Length(given.value);
-        at = given.next;
-    }
-    lengths
 }
 
 // The code of a work system.
 fn system_code(number: u64) -> u16
     ensures { result ≡ system_code number }
 {
-    match number {
-        2 => 550,
-        3 => 560,
-        4 => 570,
-        5 => 580,
-        6 => 590,
-        7 => 591,
-        8 => 592,
-        9 => 593,
-        _ => 540,
-    }
+    [540, 550, 560, 570, 580, 590, 591, 592, 593]
+        .get(number.saturating_sub(1) as usize)
+        .copied()
+        .unwrap_or(540)
 }
 
-// Reads a file into the record and the table. A file that is refused changes neither.
-pub fn read(text: &[u8], rec: Record, table: &mut [i64]) -> Loaded
-    ensures { Loads text.now rec table.old (record { number = result.number; rec = result.rec; table = table.new }) }
+// Reads a file into the record and the table: the record as the file leaves it. A file that is refused changes neither.
+pub fn read(text: &[u8], rec: Record, table: &mut [i64]) -> Result<Record, FileRefusal>
+    ensures { Loads text.now rec table.old (loaded_as result rec table.new) }
 {
     if is_disordered(rec, table) {
-        return Loaded {
-            number: 1,
-            rec: rec,
-        };
+        return Err(FileRefusal::Disorder);
     }
-    let number = judge(text);
-    if number != 0 {
-        return Loaded { number, rec: rec };
-    }
-    let at = fill_table(text, table);
-    let old_offset = rec.offset;
-    let old_origins = rec.origins;
-    let offset = fill_offset(text, at, old_offset);
-    let lengths = offset.lengths;
-    let system = value_at(text, offset.next, 5220);
-    let origins = fill_origins(text, system.next, old_origins);
-    let mut next = rec;
-    next.offset = lengths;
-    next.origins = origins;
-    next.system = system_code(value::size_of(system.value));
-    Loaded {
-        number: 0,
-        rec: next,
-    }
+    let mut lines = accepted(text)?;
+    let mut offset = rec.offset;
+    let mut origins = rec.origins;
+    lines.fill_table(table);
+    lines.fill_lengths(&mut offset, 5211);
+    let system = lines.value(5220);
+    lines.fill_lengths(&mut origins, 5221);
+    Ok(Record {
+        offset,
+        origins,
+        system: system_code(value::size_of(system)),
+        ..rec
+    })
 }

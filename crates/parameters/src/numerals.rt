@@ -1,5 +1,5 @@
 // A number in shortest decimals, put into a text.
-ghost use Rattle.std.specs.Prelude.{◌≡◌, ◌+◌, ◌≤◌, ◌<◌, ◌++◌, length};
+ghost use Rattle.std.specs.Prelude.{◌≡◌, ◌+◌, ◌≤◌, ◌<◌, length};
 ghost use Rattle.std.proofs.lemmas.List.Edits.{sets};
 ghost use Rattle.grammar.specs.Bytes.{byte};
 ghost use Rattle.grammar.specs.Grammar.{spell_sign, write_fraction, write_number};
@@ -16,7 +16,7 @@ struct Decimals {
 }
 
 // How many digits a number has.
-pub(crate) fn digit_count(number: u64) -> usize
+fn digit_count(number: u64) -> usize
     ensures { (result ≡ length (digits_of number)) × (result ≤ number + 1) }
 {
     let mut rest = number;
@@ -33,10 +33,8 @@ fn whole_part(number: u64, decimals: usize) -> u64
     ensures { (result ≡ without decimals number) × (result ≤ number) }
 {
     let mut rest = number;
-    let mut left = decimals;
-    while left > 0 {
+    for _decimal in 0..decimals {
         rest /= 10;
-        left -= 1;
     }
     rest
 }
@@ -46,21 +44,16 @@ fn decimals_of(number: u64, decimals: usize) -> Decimals
     ensures { Cut decimals number result.count result.rest }
 {
     let mut rest = number;
-    let mut left = decimals;
-    while left > 0 {
+    for left in (0..decimals).rev() {
         if rest % 10 != 0 {
             return Decimals {
-                count: left,
-                rest: rest,
+                count: left + 1,
+                rest,
             };
         }
         rest /= 10;
-        left -= 1;
     }
-    Decimals {
-        count: 0,
-        rest: rest,
-    }
+    Decimals { count: 0, rest }
 }
 
 // A decimal digit.
@@ -77,9 +70,7 @@ fn put_digits(number: u64, many: usize, text: &mut [u8], at: usize)
     ensures { text.new ≡ sets text.old at (last many number) }
 {
     let mut rest = number;
-    let mut left = many;
-    while left > 0 {
-        left -= 1;
+    for left in (0..many).rev() {
         text[at + left] = digit(rest % 10);
         rest /= 10;
     }
@@ -139,39 +130,4 @@ pub(crate) fn put_number(
     let first = put_sign(negative, size, text, at);
     let point = put_whole(whole_part(size, decimals), text, first);
     put_fraction(size, decimals, text, point)
-}
-
-// How long the point and the decimals are.
-fn fraction_size(number: u64, decimals: usize) -> usize
-    requires { decimals ≤ 5 }
-    ensures { (result ≡ length (write_fraction (fraction (trimmed (last decimals number))))) × (result ≤ 6) }
-{
-    let d = decimals_of(number, decimals);
-    let count = d.count;
-    if count == 0 {
-        return 0;
-    }
-    count + 1
-}
-
-// How long the sign is.
-fn sign_size(negative: bool, size: u64) -> usize
-    ensures { (result ≡ length (spell_sign (sign_of (minus (signed negative size))))) × (result ≤ 1) }
-{
-    if size == 0 {
-        return 0;
-    }
-    if !negative {
-        return 0;
-    }
-    1
-}
-
-// How long a number in shortest decimals is.
-pub(crate) fn number_size(negative: bool, size: u64, decimals: usize) -> usize
-    requires { (decimals ≤ 5) × (size ≤ 1000000000) }
-    ensures { (result ≡ length (write_number (shortest decimals (signed negative size)))) × (result ≤ 1000000010) }
-{
-    let whole = digit_count(whole_part(size, decimals));
-    sign_size(negative, size) + whole + fraction_size(size, decimals)
 }

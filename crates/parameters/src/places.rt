@@ -16,38 +16,24 @@ pub enum Place {
 pub(crate) fn stands_for(number: usize) -> Place
     ensures { result ≡ stands_for number }
 {
-    if number < 1 {
-        return Place::Passed;
+    match number {
+        1..=4999 => Place::Entry(number),
+        5211..=5213 => Place::Offset(number - 5211),
+        5220 => Place::System,
+        5221..=5383 => origin_at(number - 5221),
+        _ => Place::Passed,
     }
-    if number <= 4999 {
-        return Place::Entry(number);
-    }
-    if number < 5211 {
-        return Place::Passed;
-    }
-    if number <= 5213 {
-        return Place::Offset(number - 5211);
-    }
-    if number == 5220 {
-        return Place::System;
-    }
-    if number < 5221 {
-        return Place::Passed;
-    }
-    if 5383 < number {
-        return Place::Passed;
-    }
-    origin_at(number - 5221)
 }
 
 // What the number stands for that lies so far behind 5221: origins begin every 20, and have three axes.
 fn origin_at(distance: usize) -> Place
     ensures { result ≡ origin_at distance }
 {
-    if 3 <= distance % 20 {
-        return Place::Passed;
+    if distance % 20 < 3 {
+        Place::Origin(3 * (distance / 20) + distance % 20)
+    } else {
+        Place::Passed
     }
-    Place::Origin(3 * (distance / 20) + distance % 20)
 }
 
 // How many decimals a value may have there.
@@ -56,9 +42,7 @@ pub(crate) fn decimals(place: Place) -> usize
 {
     match place {
         Place::Entry(_) => 4,
-        Place::Offset(_) => 5,
-        Place::Origin(_) => 5,
-        Place::System => 0,
-        Place::Passed => 0,
+        Place::Offset(_) | Place::Origin(_) => 5,
+        Place::System | Place::Passed => 0,
     }
 }

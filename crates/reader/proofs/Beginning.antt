@@ -1,13 +1,13 @@
 -- The line's beginning: the mark and its condition, and N with its digits.
 -- Assumes nothing.
 use mathlib.Core.Path.{◌≡◌, refl, sym, ap, ap₂, ◌∙◌}
-use mathlib.Core.Bool.{Bool, true, false, cond, not}
+use mathlib.Core.Bool.{Bool, true, false, cond}
 use mathlib.Core.List.{List, [], ◌∷◌, ◌++◌}
 use Prim.Native.Nat.{ℕ, suc, ◌+◌, ◌-◌, ◌≤◌, ◌<◌}
 use native.Mathlib.Omega.{arith}
 use borrow.Author.Tests.{ne_eqb, le-leb, lt-leb}
 use lib.Dec.{eqb, eqb→eq, ltb}
-use lib.IntN.{ℤ, nat_abs}
+use lib.IntN.{ℤ}
 use lib.ListN.{length, drop, get_or, length-drop, drop_of_length-le}
 use lib.Seq.{drop-drop}
 use Rattle.grammar.specs.Grammar.{digit, Label, grouped, Expr, Stroke, slash, backslash, Mark, unmarked, plain, conditional, Item, Line, line}
@@ -18,38 +18,37 @@ use Rattle.grammar.proofs.Sound.{while_good}
 use Rattle.grammar.proofs.Bare.{mark_work_holds}
 use Rattle.grammar.proofs.Place.{Placed, wrong, found, bind_p, map_p, place}
 use Rattle.grammar.proofs.Trees.{value_t, expr_t, items_t, label_t, label_ends, mark_t, stroke_t, mark_tree, mark_ends, mark_right, bracket_tree, line_t, line_tree}
-use Rattle.rules.specs.Meaning.{Entry, runs, condition_of, words, settings}
-use Rattle.rules.specs.declared.Worked.{Worked}
-use Rattle.rules.specs.declared.Worked.TheVariants.{Good, Bad}
+use Rattle.rules.specs.Meaning.{Worked, Entry, runs, condition_of, words, settings}
 use Rattle.reader.specs.Pass.{guarded}
 use Rattle.reader.specs.Places.{DigitsAt, spelt_to}
-use Rattle.reader.specs.Levels.{of_value}
+use Rattle.reader.specs.Levels.{came, of_value}
 use Rattle.reader.specs.Marks.{stroke_of, after_stroke, first_of, goes_on, nests_deep, begun_by, begun_after, of_mark}
-use Rattle.reader.specs.Reading.{Spaces}
+use Rattle.reader.specs.Reading.{Spaces, zeros, unread_of, Left, left}
 use Rattle.reader.specs.Gather.{checked, left_from, left_stopped, left_deep, left_after, left_by_line}
 use Rattle.reader.specs.declared.numbers.Digits.{Digits}
-use Rattle.reader.specs.declared.spelling.Spelt.{Spelt}
-use Rattle.reader.specs.declared.spelling.Spelt.TheVariants.{To as Ends, Not}
-use Rattle.reader.specs.declared.values.Nested.TheVariants.{To, Deep, Wrong as NoValue}
+use Rattle.reader.specs.declared.values.Came.{Came}
+use Rattle.reader.specs.declared.values.NoValue.TheVariants.{Deep, Wrong}
+use Rattle.reader.specs.declared.answer.Unread.TheVariants.{Deep as TooDeep}
 use Rattle.reader.specs.declared.mark.First.{First}
 use Rattle.reader.specs.declared.mark.First.TheVariants.{Unmarked, Plain, Condition}
 use Rattle.reader.specs.declared.mark.Begun.{Begun}
-use Rattle.reader.specs.declared.mark.Marked.TheVariants.{Past, Wrong as NoMark}
+use Rattle.std.specs.Prelude.{Result, Ok, Err}
 use Rattle.reader.proofs.Spellings.{back, first_of_holds}
 use Rattle.reader.proofs.Numerals.{drop_digits, run_on}
-use Rattle.reader.proofs.Evaluating.{ends_is, not_is}
+use Rattle.reader.proofs.Evaluating.{ok_one, with_place, answer_one, place_one, ends_is, not_is}
 use Rattle.reader.proofs.Levels.{wide_fits, wide_over}
+use Rattle.reader.proofs.Gathering.{untidied}
 use Rattle.reader.proofs.Clash.{clash}
 
 module _ (s : List ℕ) (at : ℕ) (l : at ≤ length s) where
-  pub label_past : length s ≤ at → Ends at ≡ spelt_to (label_t s at)
+  pub label_past : length s ≤ at → Ok at ≡ spelt_to (label_t s at)
   unfolding label_t
-  label_past h = rw (drop_of_length-le s h) (ap Ends (let e : at ≡ length s - 0 = omega arith in e))
+  label_past h = rw (drop_of_length-le s h) (ap Ok (let e : at ≡ length s - 0 = omega arith in e))
 
   module _ (h : at < length s) where
-    pub label_none : (get_or s at 0 ≡ 78 → ⊥) → Ends at ≡ spelt_to (label_t s at)
+    pub label_none : (get_or s at 0 ≡ 78 → ⊥) → Ok at ≡ spelt_to (label_t s at)
     unfolding label_t
-    label_none n = rw (first_of_holds s at h, ne_eqb 78 (get_or s at 0) (λ e. n (sym e))) (ap Ends (let e : at ≡ length s - suc (length (drop (at + 1) s)) = simp length-drop (omega arith) in e))
+    label_none n = rw (first_of_holds s at h, ne_eqb 78 (get_or s at 0) (λ e. n (sym e))) (ap Ok (let e : at ≡ length s - suc (length (drop (at + 1) s)) = simp length-drop (omega arith) in e))
 
     module _ (n : get_or s at 0 ≡ 78) {r : Digits} (q : DigitsAt s (at + 1) 0 r) where
       ds : List ℕ
@@ -62,61 +61,28 @@ module _ (s : List ℕ) (at : ℕ) (l : at ≤ length s) where
       far : (at + 1 ≤ r.next) × (r.next ≤ length s)
       far = run_on s (at + 1) 0 (omega arith) q
 
-      pub label_empty : r.next ≡ at + 1 → Not r.next ≡ spelt_to (label_t s at)
+      pub label_empty : r.next ≡ at + 1 → Err r.next ≡ spelt_to (label_t s at)
       unfolding ds
-      label_empty e = rw (after_n, lt-leb 1 (length ds) (omega (arith, q.past))) (ap Not (sym (back s r.next far.1)))
+      label_empty e = rw (after_n, lt-leb 1 (length ds) (omega (arith, q.past))) (ap Err (sym (back s r.next far.1)))
 
-      pub label_many : at + 6 < r.next → Not (at + 6) ≡ spelt_to (label_t s at)
+      pub label_many : at + 6 < r.next → Err (at + 6) ≡ spelt_to (label_t s at)
       unfolding ds
       label_many e =
           let v : ds ++ drop r.next s ≡ drop (at + 1) s = ap (λ (k : ℕ). ds ++ drop k s) q.past ∙ ap (λ (x : List ℕ). ds ++ x) (sym (drop_digits s (at + 1))) ∙ sym (while_good digit (drop (at + 1) s)) in
           let u : at + 1 + 5 ≡ at + 6 = omega arith in
           let w : drop 5 (ds ++ drop r.next s) ≡ drop (at + 6) s = ap (drop 5) v ∙ drop-drop 5 (at + 1) s ∙ ap (λ (k : ℕ). drop k s) u in
-          rw (after_n, le-leb 1 (length ds) (omega (arith, q.past)), lt-leb (length ds) 5 (omega (arith, q.past)), w) (ap Not (sym (back s (at + 6) (omega (arith, far)))))
+          rw (after_n, le-leb 1 (length ds) (omega (arith, q.past)), lt-leb (length ds) 5 (omega (arith, q.past)), w) (ap Err (sym (back s (at + 6) (omega (arith, far)))))
 
-      pub label_some : (r.next ≡ at + 1 → ⊥) → r.next ≤ at + 6 → Ends r.next ≡ spelt_to (label_t s at)
+      pub label_some : (r.next ≡ at + 1 → ⊥) → r.next ≤ at + 6 → Ok r.next ≡ spelt_to (label_t s at)
       unfolding ds
-      label_some a b = rw (after_n, le-leb 1 (length ds) (omega (arith, q.past, far)), le-leb (length ds) 5 (omega (arith, q.past))) (ap Ends (sym (back s r.next far.1)))
+      label_some a b = rw (after_n, le-leb 1 (length ds) (omega (arith, q.past, far)), le-leb (length ds) 5 (omega (arith, q.past))) (ap Ok (sym (back s r.next far.1)))
 
 -- a label ends no earlier than it begins, and inside the line
-pub label_within : (s : List ℕ) (at : ℕ) {p : ℕ} → at ≤ length s → Ends p ≡ spelt_to (label_t s at) → (at ≤ p) × (p ≤ length s)
+pub label_within : (s : List ℕ) (at : ℕ) {p : ℕ} → at ≤ length s → Ok p ≡ spelt_to (label_t s at) → (at ≤ p) × (p ≤ length s)
 label_within s at {p} l e =
     let k = ends_is (label_t s at) e in
     let z = label_ends s at k.thing p l k.is in
     (omega (arith, z), z.1)
-
--- ---- the mark: its bytes
-
-pub after_none : (c : Bool) (s : List ℕ) → length s ≤ 1 → Plain ≡ after_stroke c (drop 1 s)
-after_none c [] l = refl
-after_none c (b ∷ []) l = refl
-after_none c (b ∷ d ∷ s) l = absurd (omega arith)
-
-pub after_bracket : (c : Bool) (s : List ℕ) → 1 < length s → get_or s 1 0 ≡ 91 → Condition c ≡ after_stroke c (drop 1 s)
-after_bracket c [] l e = absurd (omega arith)
-after_bracket c (b ∷ []) l e = absurd (omega arith)
-after_bracket c (b ∷ d ∷ s) l e = rw e
-
-pub after_other : (c : Bool) (s : List ℕ) → 1 < length s → (get_or s 1 0 ≡ 91 → ⊥) → Plain ≡ after_stroke c (drop 1 s)
-after_other c [] l e = absurd (omega arith)
-after_other c (b ∷ []) l e = absurd (omega arith)
-after_other c (b ∷ d ∷ s) l e = rw (ne_eqb 91 d (λ z. e (sym z)))
-
-pub first_none : (s : List ℕ) → length s ≡ 0 → Unmarked ≡ first_of s
-first_none [] e = refl
-first_none (b ∷ s) e = absurd (omega arith)
-
-pub first_slash : (s : List ℕ) {r : First} → (length s ≡ 0 → ⊥) → get_or s 0 0 ≡ 47 → r ≡ after_stroke true (drop 1 s) → r ≡ first_of s
-first_slash [] n e d = absurd (n refl)
-first_slash (b ∷ s) n e d = rw e d
-
-pub first_backslash : (s : List ℕ) {r : First} → (length s ≡ 0 → ⊥) → get_or s 0 0 ≡ 92 → r ≡ after_stroke false (drop 1 s) → r ≡ first_of s
-first_backslash [] n e d = absurd (n refl)
-first_backslash (b ∷ s) n e d = rw e d
-
-pub first_other : (s : List ℕ) → (length s ≡ 0 → ⊥) → (get_or s 0 0 ≡ 47 → ⊥) → (get_or s 0 0 ≡ 92 → ⊥) → Unmarked ≡ first_of s
-first_other [] n e d = absurd (n refl)
-first_other (b ∷ s) n e d = rw (ne_eqb 47 b (λ z. e (sym z)), ne_eqb 92 b (λ z. d (sym z)))
 
 -- ---- the mark: its tree
 
@@ -152,88 +118,77 @@ firsts s e = rw e (all_first s)
 
 -- ---- the mark: what it leaves
 
--- whether the line runs, by how far its condition is from zero
-pub runs_zero : (c : Bool) (v : ℤ) {n : ℕ} → n ≡ nat_abs v → n ≤ 1 → not c ≡ runs (stroke_of c) v
-runs_zero true v e l = rw (le-leb (nat_abs v) 1 (rw e at l))
-runs_zero false v e l = rw (le-leb (nat_abs v) 1 (rw e at l))
-
-pub runs_other : (c : Bool) (v : ℤ) {n : ℕ} → n ≡ nat_abs v → 1 < n → c ≡ runs (stroke_of c) v
-runs_other true v e l = rw (lt-leb (nat_abs v) 1 (rw e at l))
-runs_other false v e l = rw (lt-leb (nat_abs v) 1 (rw e at l))
-
 module _ (t : List ℤ) (k : Stroke) where
-  condition_to : (m : Placed Expr) {a : Worked} {w p : ℕ} {b : Begun} → To a w p ≡ of_value t 24 (map_p grouped m) → b ≡ begun_by (condition_of k a) (w - 1) → Past b p ≡ of_mark t (map_p (conditional k) m)
+  condition_to : (m : Placed Expr) {a : Worked} {w p : ℕ} {b : Begun} → Ok (came a w p) ≡ of_value t 24 (map_p grouped m) → b ≡ begun_by (condition_of k a) (w - 1) → with_place b p ≡ of_mark t (map_p (conditional k) m)
   condition_to (wrong q) e d = clash (cc)
   condition_to (found x q) {a} {w} {p} {b} e d = go (ltb 24 (suc (expr_depth x))) e
     where
-      go : (c : Bool) → To a w p ≡ cond c (Deep q) (To (expression (guarded t) x) (suc (expr_work x)) q) → Past b p ≡ Past (cond c nests_deep (begun_by (condition_of k (expression (guarded t) x)) (expr_work x))) q
+      go : (c : Bool) → Ok (came a w p) ≡ cond c (Err (Deep q)) (Ok (came (expression (guarded t) x) (suc (expr_work x)) q)) → with_place b p ≡ with_place (cond c nests_deep (begun_by (condition_of k (expression (guarded t) x)) (expr_work x))) q
       go true h = clash (cc)
       go false h =
-          let i : a ≡ expression (guarded t) x = cc in
-          let j : w ≡ suc (expr_work x) = cc in
-          let o : p ≡ q = cc in
-          ap₂ Past (d ∙ ap₂ (λ (y : Worked) (z : ℕ). begun_by (condition_of k y) z) i (let g : w - 1 ≡ expr_work x = omega arith in g)) o
+          let u = ok_one h in
+          let i : a ≡ expression (guarded t) x = ap (λ (y : Came). y.worked) u in
+          let j : w ≡ suc (expr_work x) = ap (λ (y : Came). y.work) u in
+          let o : p ≡ q = ap (λ (y : Came). y.next) u in
+          ap₂ with_place (d ∙ ap₂ (λ (y : Worked) (z : ℕ). begun_by (condition_of k y) z) i (let g : w - 1 ≡ expr_work x = omega arith in g)) o
 
-  condition_deep : (m : Placed Expr) {p : ℕ} {b : Begun} → Deep p ≡ of_value t 24 (map_p grouped m) → b ≡ nests_deep → Past b p ≡ of_mark t (map_p (conditional k) m)
+  condition_deep : (m : Placed Expr) {p : ℕ} {b : Begun} → Err (Deep p) ≡ of_value t 24 (map_p grouped m) → b ≡ nests_deep → with_place b p ≡ of_mark t (map_p (conditional k) m)
   condition_deep (wrong q) e d = clash (cc)
   condition_deep (found x q) {p} {b} e d = go (ltb 24 (suc (expr_depth x))) e
     where
-      go : (c : Bool) → Deep p ≡ cond c (Deep q) (To (expression (guarded t) x) (suc (expr_work x)) q) → Past b p ≡ Past (cond c nests_deep (begun_by (condition_of k (expression (guarded t) x)) (expr_work x))) q
-      go true h = let o : p ≡ q = cc in ap₂ Past d o
+      go : (c : Bool) → Err (Deep p) ≡ cond c (Err (Deep q)) (Ok (came (expression (guarded t) x) (suc (expr_work x)) q)) → with_place b p ≡ with_place (cond c nests_deep (begun_by (condition_of k (expression (guarded t) x)) (expr_work x))) q
+      go true h = let o : p ≡ q = cc in ap₂ with_place d o
       go false h = clash (cc)
 
-  condition_wrong : (m : Placed Expr) {p : ℕ} → NoValue p ≡ of_value t 24 (map_p grouped m) → NoMark p ≡ of_mark t (map_p (conditional k) m)
-  condition_wrong (wrong q) {p} e = let o : p ≡ q = cc in ap NoMark o
+  condition_wrong : (m : Placed Expr) {p : ℕ} → Err (Wrong p) ≡ of_value t 24 (map_p grouped m) → Err p ≡ of_mark t (map_p (conditional k) m)
+  condition_wrong (wrong q) {p} e = let o : p ≡ q = cc in ap Err o
   condition_wrong (found x q) {p} e = go (ltb 24 (suc (expr_depth x))) e
     where
-      go : (c : Bool) → NoValue p ≡ cond c (Deep q) (To (expression (guarded t) x) (suc (expr_work x)) q) → NoMark p ≡ of_mark t (found (conditional k x) q)
+      go : (c : Bool) → Err (Wrong p) ≡ cond c (Err (Deep q)) (Ok (came (expression (guarded t) x) (suc (expr_work x)) q)) → Err p ≡ of_mark t (found (conditional k x) q)
       go true h = clash (cc)
       go false h = clash (cc)
 
 -- a bracket's work is its own and that of what it holds
-works_some : (t : List ℤ) (m : Placed Expr) {a : Worked} {w p : ℕ} → To a w p ≡ of_value t 24 (map_p grouped m) → 1 ≤ w
+works_some : (t : List ℤ) (m : Placed Expr) {a : Worked} {w p : ℕ} → Ok (came a w p) ≡ of_value t 24 (map_p grouped m) → 1 ≤ w
 works_some t (wrong q) e = clash (cc)
 works_some t (found x q) {a} {w} {p} e = go (ltb 24 (suc (expr_depth x))) e
   where
-    go : (c : Bool) → To a w p ≡ cond c (Deep q) (To (expression (guarded t) x) (suc (expr_work x)) q) → 1 ≤ w
+    go : (c : Bool) → Ok (came a w p) ≡ cond c (Err (Deep q)) (Ok (came (expression (guarded t) x) (suc (expr_work x)) q)) → 1 ≤ w
     go true h = clash (cc)
-    go false h = let j : w ≡ suc (expr_work x) = cc in omega arith
+    go false h = let j : w ≡ suc (expr_work x) = ap (λ (y : Came). y.work) (ok_one h) in omega arith
 
 form_same : (k : Stroke) (m : Placed Expr) → spelt_to (map_p grouped m) ≡ spelt_to (map_p (conditional k) m)
 form_same k (wrong p) = refl
 form_same k (found x p) = refl
 
 module _ (t : List ℤ) (s : List ℕ) where
-  pub mark_none : {b : Begun} → Unmarked ≡ first_of s → b ≡ goes_on 0 → Past b 0 ≡ of_mark t (mark_t s)
-  mark_none e d = rw (firsts s e) (ap (λ (x : Begun). Past x 0) d)
+  pub mark_none : {b : Begun} → Unmarked ≡ first_of s → b ≡ goes_on 0 → with_place b 0 ≡ of_mark t (mark_t s)
+  mark_none e d = rw (firsts s e) (ap (λ (x : Begun). with_place x 0) d)
 
-  pub mark_plain : {b : Begun} → Plain ≡ first_of s → b ≡ goes_on 0 → Past b 1 ≡ of_mark t (mark_t s)
-  mark_plain e d = rw (firsts s e).1 (ap (λ (x : Begun). Past x 1) d)
+  pub mark_plain : {b : Begun} → Plain ≡ first_of s → b ≡ goes_on 0 → with_place b 1 ≡ of_mark t (mark_t s)
+  mark_plain e d = rw (firsts s e).1 (ap (λ (x : Begun). with_place x 1) d)
 
   module _ {c : Bool} (e : Condition c ≡ first_of s) where
-    pub mark_long : 1 ≤ length s
-    mark_long = let l = (firsts s e).0 in omega arith
-
-    pub mark_work_some : {a : Worked} {w p : ℕ} → To a w p ≡ of_value t 24 (value_t s 1) → 1 ≤ w
+    pub mark_work_some : {a : Worked} {w p : ℕ} → Ok (came a w p) ≡ of_value t 24 (value_t s 1) → 1 ≤ w
     mark_work_some h = works_some t (expr_t s 2) (rw (firsts s e).1 at h)
 
-    pub mark_condition : {a : Worked} {w p : ℕ} {b : Begun} → To a w p ≡ of_value t 24 (value_t s 1) → b ≡ begun_by (condition_of (stroke_of c) a) (w - 1) → Past b p ≡ of_mark t (mark_t s)
+    pub mark_condition : {a : Worked} {w p : ℕ} {b : Begun} → Ok (came a w p) ≡ of_value t 24 (value_t s 1) → b ≡ begun_by (condition_of (stroke_of c) a) (w - 1) → with_place b p ≡ of_mark t (mark_t s)
     mark_condition h d = rw (firsts s e).2 (condition_to t (stroke_of c) (expr_t s 2) (rw (firsts s e).1 at h) d)
 
-    pub mark_deep : {p : ℕ} {b : Begun} → Deep p ≡ of_value t 24 (value_t s 1) → b ≡ nests_deep → Past b p ≡ of_mark t (mark_t s)
+    pub mark_deep : {p : ℕ} {b : Begun} → Err (Deep p) ≡ of_value t 24 (value_t s 1) → b ≡ nests_deep → with_place b p ≡ of_mark t (mark_t s)
     mark_deep h d = rw (firsts s e).2 (condition_deep t (stroke_of c) (expr_t s 2) (rw (firsts s e).1 at h) d)
 
-    pub mark_wrong : {p : ℕ} → NoValue p ≡ of_value t 24 (value_t s 1) → NoMark p ≡ of_mark t (mark_t s)
+    pub mark_wrong : {p : ℕ} → Err (Wrong p) ≡ of_value t 24 (value_t s 1) → Err p ≡ of_mark t (mark_t s)
     mark_wrong h = rw (firsts s e).2 (condition_wrong t (stroke_of c) (expr_t s 2) (rw (firsts s e).1 at h))
 
 -- its form alone
-pub form_none : (s : List ℕ) → Unmarked ≡ first_of s → Ends 0 ≡ spelt_to (mark_t s)
+pub form_none : (s : List ℕ) → Unmarked ≡ first_of s → Ok 0 ≡ spelt_to (mark_t s)
 form_none s e = rw (firsts s e)
 
-pub form_plain : (s : List ℕ) → Plain ≡ first_of s → Ends 1 ≡ spelt_to (mark_t s)
+pub form_plain : (s : List ℕ) → Plain ≡ first_of s → Ok 1 ≡ spelt_to (mark_t s)
 form_plain s e = rw (firsts s e).1
 
-pub form_condition : (s : List ℕ) {c : Bool} {r : Spelt} → Condition c ≡ first_of s → r ≡ spelt_to (value_t s 1) → r ≡ spelt_to (mark_t s)
+pub form_condition : (s : List ℕ) {c : Bool} {r : Result ℕ ℕ} → Condition c ≡ first_of s → r ≡ spelt_to (value_t s 1) → r ≡ spelt_to (mark_t s)
 form_condition s {c} e h = h ∙ rw ((firsts s e).1, (firsts s e).2) (form_same (stroke_of c) (expr_t s 2))
 
 -- ---- from what the mark left to the line
@@ -244,18 +199,18 @@ pub record Bears (t : List ℤ) (m : Placed Mark) (b : Begun) (p : ℕ) : Type 0
   pub is : m ≡ found mark p
   pub leaves : b ≡ begun_after t mark
 
-bears : (t : List ℤ) (m : Placed Mark) {b : Begun} {p : ℕ} → Past b p ≡ of_mark t m → Bears t m b p
+bears : (t : List ℤ) (m : Placed Mark) {b : Begun} {p : ℕ} → with_place b p ≡ of_mark t m → Bears t m b p
 bears t (wrong q) e = clash (cc)
-bears t (found x q) {b} {p} e = let o : q ≡ p = cc in record { mark = x; is = ap (found x) o; leaves = cc }
+bears t (found x q) e = record { mark = x; is = ap (found x) (sym (place_one e)); leaves = answer_one e }
 
-no_mark_is : (t : List ℤ) (m : Placed Mark) {p : ℕ} → NoMark p ≡ of_mark t m → m ≡ wrong p
+no_mark_is : (t : List ℤ) (m : Placed Mark) {p : ℕ} → Err p ≡ of_mark t m → m ≡ wrong p
 no_mark_is t (wrong q) {p} e = let o : q ≡ p = cc in rw o
 no_mark_is t (found x q) e = clash (cc)
 
 -- a condition gives nothing to be stored
 condition_gives : (k : Stroke) (a : Worked) {e : Entry} {X : Type 0} → condition_of k a ≡ give e → X
-condition_gives k (Bad n) h = clash (cc)
-condition_gives k (Good v) {e} {X} h = go (runs k v.0) h
+condition_gives k (Err n) h = clash (cc)
+condition_gives k (Ok v) {e} {X} h = go (runs k v.0) h
   where
     go : (c : Bool) → cond c skip (stop 100) ≡ give e → X
     go true g = clash (cc)
@@ -279,9 +234,9 @@ module _ (t : List ℤ) (old : Spaces) (m : Mark) (n : Label) where
       let j : 0 + length (settings e) ≡ length (settings e) = omega arith in
       rw (wide_fits 24 (mark_depth m) (items_depth is) h, g, i, j)
 
-  stop_left : (x : Placed (List Item)) {k : ℕ} → ltb 24 (mark_depth m) ≡ false → mark_step (guarded t) m ≡ stop k → left_stopped t k old x ≡ left_by_line t (map_p (line m n) x) old
+  stop_left : (x : Placed (List Item)) {k : ℕ} → ltb 24 (mark_depth m) ≡ false → mark_step (guarded t) m ≡ stop k → left_stopped t (unread_of k) old x ≡ left_by_line t (map_p (line m n) x) old
   stop_left (wrong p) h g = refl
-  stop_left (found is p) h g = rw (wide_fits 24 (mark_depth m) (items_depth is) h, g)
+  stop_left (found is p) {k} h g = rw (wide_fits 24 (mark_depth m) (items_depth is) h, g) (ap (λ (x : Left). cond (ltb 24 (items_depth is)) (left (Err TooDeep) zeros) x) (untidied k old))
 
   -- what the items leave after the mark the line leaves
   mark_left : (x : Placed (List Item)) → left_after t (begun_after t m) old x ≡ left_by_line t (map_p (line m n) x) old
@@ -302,33 +257,33 @@ module _ (s : List ℕ) where
   opened : (m : Mark) {p : ℕ} → mark_t s ≡ found m p → line_t s ≡ bind_p (label_t s p) (λ n q. map_p (line m n) (items_t s q))
   opened m e = line_tree s ∙ rw e
 
-  opened_at : (m : Mark) {p q : ℕ} (e : mark_t s ≡ found m p) (h : Ends q ≡ spelt_to (label_t s p)) → line_t s ≡ map_p (line m (ends_is (label_t s p) h).thing) (items_t s q)
+  opened_at : (m : Mark) {p q : ℕ} (e : mark_t s ≡ found m p) (h : Ok q ≡ spelt_to (label_t s p)) → line_t s ≡ map_p (line m (ends_is (label_t s p) h).thing) (items_t s q)
   opened_at m {p} e h = opened m e ∙ ap (λ (x : Placed Label). bind_p x (λ n r. map_p (line m n) (items_t s r))) (ends_is (label_t s p) h).is
 
-  pub form_within : {p : ℕ} → Ends p ≡ spelt_to (mark_t s) → p ≤ length s
+  pub form_within : {p : ℕ} → Ok p ≡ spelt_to (mark_t s) → p ≤ length s
   form_within {p} e = let k = ends_is (mark_t s) e in (mark_ends s k.thing p k.is).1
 
-  pub line_checked : {p q : ℕ} → Ends p ≡ spelt_to (mark_t s) → Ends q ≡ spelt_to (label_t s p) → checked (items_t s q) ≡ checked (line_t s)
+  pub line_checked : {p q : ℕ} → Ok p ≡ spelt_to (mark_t s) → Ok q ≡ spelt_to (label_t s p) → checked (items_t s q) ≡ checked (line_t s)
   line_checked {p} {q} e h =
       let k = ends_is (mark_t s) e in
       items_checked k.thing (ends_is (label_t s p) h).thing (items_t s q) ∙ ap (λ (x : Placed Line). checked x) (sym (opened_at k.thing k.is h))
 
-  pub label_wrong : {p q : ℕ} → Ends p ≡ spelt_to (mark_t s) → Not q ≡ spelt_to (label_t s p) → wrong q ≡ line_t s
+  pub label_wrong : {p q : ℕ} → Ok p ≡ spelt_to (mark_t s) → Err q ≡ spelt_to (label_t s p) → wrong q ≡ line_t s
   label_wrong {p} e h = let k = ends_is (mark_t s) e in sym (opened k.thing k.is ∙ rw (not_is (label_t s p) h))
 
-  pub form_wrong : {p : ℕ} → Not p ≡ spelt_to (mark_t s) → wrong p ≡ line_t s
+  pub form_wrong : {p : ℕ} → Err p ≡ spelt_to (mark_t s) → wrong p ≡ line_t s
   form_wrong e = sym (line_tree s ∙ rw (not_is (mark_t s) e))
 
   -- the same from what the mark left
   module _ (t : List ℤ) where
-    pub past_ends : {b : Begun} {p : ℕ} → Past b p ≡ of_mark t (mark_t s) → Ends p ≡ spelt_to (mark_t s)
+    pub past_ends : {b : Begun} {p : ℕ} → with_place b p ≡ of_mark t (mark_t s) → Ok p ≡ spelt_to (mark_t s)
     past_ends e = rw (bears t (mark_t s) e).is
 
-    pub no_mark : {p : ℕ} → NoMark p ≡ of_mark t (mark_t s) → wrong p ≡ line_t s
+    pub no_mark : {p : ℕ} → Err p ≡ of_mark t (mark_t s) → wrong p ≡ line_t s
     no_mark e = sym (line_tree s ∙ rw (no_mark_is t (mark_t s) e))
 
     -- its work is no more than its bytes
-    pub work_within : {b : Begun} {p : ℕ} → Past b p ≡ of_mark t (mark_t s) → b.work ≤ p
+    pub work_within : {b : Begun} {p : ℕ} → with_place b p ≡ of_mark t (mark_t s) → b.work ≤ p
     work_within {b} {p} e =
         let k = bears t (mark_t s) e in
         let z = mark_ends s k.mark p k.is in
@@ -341,7 +296,7 @@ module _ (s : List ℕ) where
         go false (give x) n h = h
         go false (stop x) n h = omega arith
 
-    pub line_left : (old : Spaces) {b : Begun} {p q : ℕ} → Past b p ≡ of_mark t (mark_t s) → Ends q ≡ spelt_to (label_t s p) → left_after t b old (items_t s q) ≡ left_by_line t (line_t s) old
+    pub line_left : (old : Spaces) {b : Begun} {p q : ℕ} → with_place b p ≡ of_mark t (mark_t s) → Ok q ≡ spelt_to (label_t s p) → left_after t b old (items_t s q) ≡ left_by_line t (line_t s) old
     line_left old {b} {p} {q} e h =
         let k = bears t (mark_t s) e in
         ap (λ (x : Begun). left_after t x old (items_t s q)) k.leaves

@@ -7,8 +7,7 @@ use mathlib.Core.List.{List, [], ◌∷◌}
 use lib.IntN.{ℤ}
 use Rattle.grammar.specs.Grammar.{Value, number, parameter, applied, grouped, Expr, expr, Rest, done, more, Item, word, setting, comment, Mark, unmarked, plain, conditional, Line, line}
 use Rattle.grammar.specs.Working.{Arithmetic, high, Pair, pair, Sum, push, terms, total, in_order, value, expression, pairs, step_of, after, entries, mark_step, line_entries}
-use Rattle.rules.specs.Meaning.{Entry, arithmetic, word_of, setting_of, condition_of}
-use Rattle.rules.specs.declared.Worked.{Worked}
+use Rattle.rules.specs.Meaning.{Worked, Entry, arithmetic, word_of, setting_of, condition_of}
 use Rattle.arithmetic.specs.Guarded.{work}
 use Rattle.arithmetic.proofs.Kept.{Kept, number_kept, work_kept, apply_kept, lookup_kept, work_is, apply_is, lookup_is}
 use Rattle.reader.specs.Pass.{guarded}

@@ -4,6 +4,7 @@ use mathlib.Core.Path.{◌≡◌, refl, sym, ap, ◌∙◌}
 use mathlib.Core.Bool.{Bool, true, false, cond}
 use mathlib.Core.List.{List, [], ◌∷◌, ◌++◌}
 use Prim.Native.Nat.{ℕ, ◌+◌, ◌^◌, ◌≤◌, ◌<◌}
+use Rattle.std.specs.Prelude.{Option, Some, None, Ok}
 use native.Mathlib.Omega.{arith}
 use native.Mathlib.Nat.{pow-le-pow_right}
 use borrow.Author.Tests.{leb-true}
@@ -19,13 +20,9 @@ use Rattle.reader.specs.Places.{DigitsAt, spelt_to}
 use Rattle.reader.specs.Gather.{checked}
 use Rattle.reader.specs.Number.{number_at, number_with, number_from}
 use Rattle.reader.specs.declared.numbers.Digits.{Digits}
-use Rattle.reader.specs.declared.spelling.Spelt.TheVariants.{To as Ends, Not}
-use Rattle.reader.specs.declared.line.Checked.TheVariants.{Right, Wrong as Broken}
-use Rattle.reader.specs.declared.label.LineNumber.{LineNumber}
-use Rattle.reader.specs.declared.label.LineNumber.TheVariants.{N, Without}
 use Rattle.reader.proofs.Clash.{clash}
 use Rattle.reader.proofs.Decimals.{moved_up}
-use Rattle.reader.proofs.Evaluating.{ends_is, not_is}
+use Rattle.reader.proofs.Evaluating.{ends_is}
 
 -- ---- the digits of a label
 
@@ -54,33 +51,22 @@ low d h =
 
 -- ---- the number of the label at a place
 
-unlabelled_none : (x : Placed (List Item)) → Without ≡ number_with unlabelled x
+unlabelled_none : (x : Placed (List Item)) → None ≡ number_with unlabelled x
 unlabelled_none (wrong p) = refl
 unlabelled_none (found is p) = refl
 
 module _ (s : List ℕ) (at : ℕ) (l : at ≤ length s) where
-  pub number_wrong : {p : ℕ} → Not p ≡ spelt_to (label_t s at) → Without ≡ number_from (label_t s at) (items_t s)
-  number_wrong e = rw (not_is (label_t s at) e)
-
-  module _ {end : ℕ} (e : Ends end ≡ spelt_to (label_t s at)) where
+  module _ {end : ℕ} (e : Ok end ≡ spelt_to (label_t s at)) where
     is : label_t s at ≡ found (ends_is (label_t s at) e).thing end
     is = (ends_is (label_t s at) e).is
 
     -- nothing stands there
-    pub number_none : end ≡ at → Without ≡ number_from (label_t s at) (items_t s)
+    pub number_none : end ≡ at → None ≡ number_from (label_t s at) (items_t s)
     number_none h = rw is (go (ends_is (label_t s at) e).thing is)
       where
-        go : (n : Label) → label_t s at ≡ found n end → Without ≡ number_with n (items_t s end)
+        go : (n : Label) → label_t s at ≡ found n end → None ≡ number_with n (items_t s end)
         go unlabelled f = unlabelled_none (items_t s end)
         go (label ds) f = let z = label_ends s at (label ds) end l f in absurd (omega (arith, z.0))
-
-    -- the items after it are wrong
-    pub number_broken : {p : ℕ} → Broken p ≡ checked (items_t s end) → Without ≡ number_from (label_t s at) (items_t s)
-    number_broken {p} h = rw is (go (items_t s end) h)
-      where
-        go : (x : Placed (List Item)) → Broken p ≡ checked x → Without ≡ number_with (ends_is (label_t s at) e).thing x
-        go (wrong q) k = refl
-        go (found y q) k = clash (cc)
 
     module _ (h : end ≡ at → ⊥) {r : Digits} (q : DigitsAt s (at + 1) 0 r) where
       record Labels : Type 0 where
@@ -105,10 +91,10 @@ module _ (s : List ℕ) (at : ℕ) (l : at ≤ length s) where
       pub number_low : r.number < 100000
       number_low = labels.low
 
-      pub number_some : Right ≡ checked (items_t s end) → N r.number ≡ number_from (label_t s at) (items_t s)
-      number_some k = ap N labels.number ∙ go (items_t s end) k ∙ ap (λ (x : Placed Label). number_from x (items_t s)) (sym labels.is)
+      pub number_some : Ok tt ≡ checked (items_t s end) → Some r.number ≡ number_from (label_t s at) (items_t s)
+      number_some k = ap Some labels.number ∙ go (items_t s end) k ∙ ap (λ (x : Placed Label). number_from x (items_t s)) (sym labels.is)
         where
-          go : (x : Placed (List Item)) → Right ≡ checked x → N (decimal 0 labels.digits) ≡ number_with (label labels.digits) x
+          go : (x : Placed (List Item)) → Ok tt ≡ checked x → Some (decimal 0 labels.digits) ≡ number_with (label labels.digits) x
           go (wrong p) f = clash (cc)
           go (found y p) f = refl
 
@@ -122,7 +108,7 @@ after_mark m (found n p) items = go (items p)
     go (wrong q) = refl
     go (found is q) = refl
 
-pub number_line : (s : List ℕ) {p : ℕ} {r : LineNumber} → Ends p ≡ spelt_to (mark_t s) → r ≡ number_from (label_t s p) (items_t s) → r ≡ number_at (line_t s)
+pub number_line : (s : List ℕ) {p : ℕ} {r : Option ℕ} → Ok p ≡ spelt_to (mark_t s) → r ≡ number_from (label_t s p) (items_t s) → r ≡ number_at (line_t s)
 number_line s {p} e h =
     let k = ends_is (mark_t s) e in
     let t : line_t s ≡ bind_p (label_t s p) (λ n q. map_p (line k.thing n) (items_t s q)) = line_tree s ∙ ap (λ (x : Placed Mark). bind_p x (λ m z. bind_p (label_t s z) (λ n q. map_p (line m n) (items_t s q)))) k.is in

@@ -5,46 +5,31 @@ use mathlib.Core.Bool.{Bool, true, false, ◌||◌}
 use mathlib.Core.List.{List, [], ◌∷◌, ◌++◌, append-nil}
 use Prim.Native.Nat.{ℕ, ◌+◌, ◌-◌, ◌*◌, ◌^◌, ◌≤◌, ◌<◌, min}
 use native.Mathlib.Omega.{arith}
-use native.Mathlib.Decide.{dec_le, ℕ_discrete}
+use native.Mathlib.Decide.{dec_le}
 use native.Mathlib.Nat.{lt_of_not-le, le-mul_of_pos_right, one-le-pow}
-use borrow.Author.Tests.{eq-eqb, ne_eqb, le-leb, lt-leb}
+use borrow.Author.Tests.{ne_eqb, le-leb, lt-leb}
 use lib.Dec.{eqb, lit<}
 use lib.IntN.{pos, neg_ℤ, nat_abs}
 use lib.ListN.{length, take, drop, get_or, length-drop, length-append, drop_of_length-le}
-use lib.Seq.{drop-drop, drop_at, length-take-le, get_or-take, take-length}
+use lib.Seq.{drop-drop, drop_at, length-take-le, get_or-take}
 use Rattle.laws.proofs.Ints.{abs_neg}
-use Rattle.grammar.specs.Grammar.{Sign, unsigned, plus, minus, digit, Fraction, whole, point, fraction_digits, Number, num}
-use Rattle.grammar.proofs.Read.{Read, got, bind, take_while, drop_while, read_fraction, finish, read_number, numeric}
+use Rattle.grammar.specs.Grammar.{Sign, digit, Fraction, whole, point, fraction_digits, Number, num}
+use Rattle.grammar.proofs.Read.{Read, got, bind, take_while, drop_while, read_fraction, finish, read_number}
 use Rattle.grammar.proofs.Sound.{while_good}
 use Rattle.grammar.proofs.Place.{place, map_p, number_p}
 use Rattle.rules.specs.Numbers.{signed}
-use Rattle.rules.specs.Meaning.{ranged, decimal, negative, written, number_of}
-use Rattle.rules.specs.declared.Worked.{Worked}
-use Rattle.rules.specs.declared.Worked.TheVariants.{Bad}
+use Rattle.rules.specs.Meaning.{Worked, ranged, decimal, negative, written, number_of}
 use Rattle.rules.proofs.Fifth.{few_decimals}
 use Rattle.value.specs.Guarded.{nearest_size}
 use Rattle.value.proofs.Written.{five_decimals}
 use Rattle.reader.specs.Places.{valued, SignAt, DigitsAt, with_digit, pointed}
-use Rattle.reader.specs.declared.values.Valued.TheVariants.{To as Came, Wrong}
+use Rattle.std.specs.Prelude.{Err}
+use Rattle.rules.specs.declared.Refusal.TheVariants.{OutOfRange}
+use Rattle.reader.proofs.Evaluating.{with_place}
 use Rattle.reader.specs.declared.numbers.Signed.{Signed}
 use Rattle.reader.specs.declared.numbers.Digits.{Digits}
 use Rattle.reader.proofs.Spellings.{back, first_of_holds}
 use Rattle.reader.proofs.Decimals.{first_five, take_on, decimal_append}
-
--- ---- the sign
-module _ (s : List ℕ) (at : ℕ) (l : at ≤ length s) where
-  pub sign_past : length s ≤ at → SignAt s at (record { negative = false; next = at })
-  sign_past h = record { sign = unsigned; is = rw (drop_of_length-le s h); minus = refl; from = omega arith; within = l }
-
-  module _ (h : at < length s) where
-    pub sign_plus : get_or s at 0 ≡ 43 → SignAt s at (record { negative = false; next = at + 1 })
-    sign_plus e = record { sign = plus; is = rw (first_of_holds s at h, e); minus = refl; from = omega arith; within = omega arith }
-
-    pub sign_minus : get_or s at 0 ≡ 45 → SignAt s at (record { negative = true; next = at + 1 })
-    sign_minus e = record { sign = minus; is = rw (first_of_holds s at h, e); minus = refl; from = omega arith; within = omega arith }
-
-    pub sign_none : (get_or s at 0 ≡ 43 → ⊥) → (get_or s at 0 ≡ 45 → ⊥) → SignAt s at (record { negative = false; next = at })
-    sign_none a b = record { sign = unsigned; is = rw (first_of_holds s at h, ne_eqb 43 (get_or s at 0) (λ e. a (sym e)), ne_eqb 45 (get_or s at 0) (λ e. b (sym e))); minus = refl; from = omega arith; within = l }
 
 -- ---- digits, held at a bound past every range
 grows : (v : ℕ) (ds : List ℕ) → v ≤ decimal v ds
@@ -64,13 +49,13 @@ held v ds = elim (dec_le v 10000000000) [
 ]
 
 -- past the range
-ranged_out : (g : Bool) (n : ℕ) → 999999999 < n → ranged (signed g n) ≡ Bad 5
+ranged_out : (g : Bool) (n : ℕ) → 999999999 < n → ranged (signed g n) ≡ Err OutOfRange
 unfolding ranged
 ranged_out true n h = rw (lt-leb (nat_abs (neg_ℤ (pos n))) 999999999 (rw (abs_neg (pos n)) h))
 ranged_out false n h = rw (lt-leb n 999999999 h)
 
 -- a number of ten thousand million or more is out of range with up to five decimals
-past_range : (g : Bool) (m k : ℕ) → k ≤ 5 → 10000000000 ≤ m → written g m k ≡ Bad 5
+past_range : (g : Bool) (m k : ℕ) → k ≤ 5 → 10000000000 ≤ m → written g m k ≡ Err OutOfRange
 past_range g m k h l = elim (dec_le k 4) [
   | yes f ↦ few_decimals g m k f ∙ ranged_out g (m * 10 ^ (4 - k)) (let a : m ≤ m * 10 ^ (4 - k) = le-mul_of_pos_right m (one-le-pow (4 - k) 10 (lit< tt)) in omega arith)
   | no f ↦ (let e : k ≡ 5 = omega (arith, lt_of_not-le f) in rw e (five_decimals g m ∙ ranged_out g (nearest_size m 10) (omega arith)))
@@ -92,9 +77,6 @@ pub record Passed (s : List ℕ) (at v n i : ℕ) : Type 0 where
   pub past : i + length (take_while digit (drop i s)) ≡ at + length (take_while digit (drop at s))
 
 module _ (s : List ℕ) (at v : ℕ) where
-  pub none_yet : at ≤ length s → v ≤ 10000000000 → Passed s at v v at
-  none_yet l h = record { low = h; from = omega arith; within = l; same = refl; past = refl }
-
   module _ {n i : ℕ} (q : Passed s at v n i) where
     ended : take_while digit (drop i s) ≡ [] → DigitsAt s at v (record { number = n; next = i })
     unfolding decimal
@@ -107,16 +89,13 @@ module _ (s : List ℕ) (at v : ℕ) where
     end_past h = ended (rw (drop_of_length-le s h))
 
     module _ (h : i < length s) where
-      pub end_low : get_or s i 0 < 48 → DigitsAt s at v (record { number = n; next = i })
-      end_low b = ended (rw (first_of_holds s i h, lt-leb 48 (get_or s i 0) b))
+      pub end_other : digit (get_or s i 0) ≡ false → DigitsAt s at v (record { number = n; next = i })
+      end_other e = ended (rw (first_of_holds s i h, e))
 
-      pub end_high : 48 ≤ get_or s i 0 → 57 < get_or s i 0 → DigitsAt s at v (record { number = n; next = i })
-      end_high a b = ended (rw (first_of_holds s i h, le-leb 48 (get_or s i 0) a, lt-leb (get_or s i 0) 57 b))
-
-      pub one_more : 48 ≤ get_or s i 0 → get_or s i 0 ≤ 57 → {m : ℕ} → m ≡ with_digit n (get_or s i 0) → Passed s at v m (i + 1)
+      pub one_more : digit (get_or s i 0) ≡ true → {m : ℕ} → m ≡ with_digit n (get_or s i 0) → Passed s at v m (i + 1)
       unfolding decimal
-      one_more a b {m} e =
-          let d : take_while digit (drop i s) ≡ get_or s i 0 ∷ take_while digit (drop (i + 1) s) = rw (first_of_holds s i h, le-leb 48 (get_or s i 0) a, le-leb (get_or s i 0) 57 b) in
+      one_more b {m} e =
+          let d : take_while digit (drop i s) ≡ get_or s i 0 ∷ take_while digit (drop (i + 1) s) = rw (first_of_holds s i h, b) in
           record {
             low = omega arith;
             from = omega (arith, q.from);
@@ -126,28 +105,21 @@ module _ (s : List ℕ) (at v : ℕ) where
           }
 
 -- ---- a part of the line that ends before its end
-pub part_none : (s : List ℕ) (end : ℕ) → end ≤ length s → (at v : ℕ) → at ≤ end → v ≤ 10000000000 → Passed (take end s) at v v at
-part_none s end l at v k h = none_yet (take end s) at v (rw (length-take-le end s l) k) h
-
 module _ (s : List ℕ) (end : ℕ) (l : end ≤ length s) (at v : ℕ) {n i : ℕ} (q : Passed (take end s) at v n i) where
   in_part : i < end → i < length (take end s)
   in_part h = rw (length-take-le end s l) h
 
-  pub part_past : end ≤ i → DigitsAt (take end s) at v (record { number = n; next = i })
-  part_past h = end_past (take end s) at v q (rw (length-take-le end s l) h)
+  pub part_past : end ≤ i → DigitsAt (take end s) at v (record { number = n; next = end })
+  part_past h =
+      let w : i ≤ end = rw (length-take-le end s l) at q.within in
+      let z : i ≡ end = omega arith in
+      rw z at (end_past (take end s) at v q (rw (length-take-le end s l) h))
 
-  pub part_low : i < end → get_or s i 0 < 48 → DigitsAt (take end s) at v (record { number = n; next = i })
-  part_low h b = end_low (take end s) at v q (in_part h) (rw (get_or-take end s i 0 h) b)
+  pub part_other : i < end → digit (get_or s i 0) ≡ false → DigitsAt (take end s) at v (record { number = n; next = i })
+  part_other h e = end_other (take end s) at v q (in_part h) (rw (get_or-take end s i 0 h) e)
 
-  pub part_high : i < end → 48 ≤ get_or s i 0 → 57 < get_or s i 0 → DigitsAt (take end s) at v (record { number = n; next = i })
-  part_high h a b = end_high (take end s) at v q (in_part h) (rw (get_or-take end s i 0 h) a) (rw (get_or-take end s i 0 h) b)
-
-  pub part_more : i < end → 48 ≤ get_or s i 0 → get_or s i 0 ≤ 57 → {m : ℕ} → m ≡ with_digit n (get_or s i 0) → Passed (take end s) at v m (i + 1)
-  part_more h a b e = one_more (take end s) at v q (in_part h) (rw (get_or-take end s i 0 h) a) (rw (get_or-take end s i 0 h) b) (rw (get_or-take end s i 0 h) e)
-
-module _ (s : List ℕ) (at v : ℕ) {r : Digits} where
-  pub to_the_end : DigitsAt (take (length s) s) at v r → DigitsAt s at v r
-  to_the_end q = rw (take-length s) at q
+  pub part_more : i < end → digit (get_or s i 0) ≡ true → {m : ℕ} → m ≡ with_digit n (get_or s i 0) → Passed (take end s) at v m (i + 1)
+  part_more h b e = one_more (take end s) at v q (in_part h) (rw (get_or-take end s i 0 h) b) (rw (get_or-take end s i 0 h) e)
 
 -- ---- a number made of its parts
 pub drop_digits : (s : List ℕ) (at : ℕ) → drop_while digit (drop at s) ≡ drop (at + length (take_while digit (drop at s))) s
@@ -179,11 +151,11 @@ fraction_some [] e = absurd (let z : ◌≡◌ {A = ℕ} 0 1 = cc in omega arith
 fraction_some (b ∷ d) e = rw e
 
 module _ (s : List ℕ) (g : Sign) (ds : List ℕ) (f : Fraction) (p : ℕ) (l : p ≤ length s) where
-  made : 1 ≤ length ds + length (fraction_digits f) → valued (map_p number_of (place s (finish g ds f (drop p s)))) ≡ Came (number_of (num g ds f)) p
-  made h = rw (le-leb 1 (length (ds ++ fraction_digits f)) (omega (arith, length-append ds (fraction_digits f)))) (ap (λ (x : ℕ). Came (number_of (num g ds f)) x) (back s p l))
+  made : 1 ≤ length ds + length (fraction_digits f) → valued (map_p number_of (place s (finish g ds f (drop p s)))) ≡ with_place (number_of (num g ds f)) p
+  made h = rw (le-leb 1 (length (ds ++ fraction_digits f)) (omega (arith, length-append ds (fraction_digits f)))) (ap (λ (x : ℕ). with_place (number_of (num g ds f)) x) (back s p l))
 
-  unmade : length ds + length (fraction_digits f) ≡ 0 → valued (map_p number_of (place s (finish g ds f (drop p s)))) ≡ Wrong p
-  unmade h = rw (lt-leb 1 (length (ds ++ fraction_digits f)) (omega (arith, length-append ds (fraction_digits f)))) (ap Wrong (back s p l))
+  unmade : length ds + length (fraction_digits f) ≡ 0 → valued (map_p number_of (place s (finish g ds f (drop p s)))) ≡ Err p
+  unmade h = rw (lt-leb 1 (length (ds ++ fraction_digits f)) (omega (arith, length-append ds (fraction_digits f)))) (ap Err (back s p l))
 
 module _ (s : List ℕ) (at : ℕ) {g : Signed} {a : Digits} (p : SignAt s at g) (q : DigitsAt s g.next 0 a) where
   ds : List ℕ
@@ -200,14 +172,14 @@ module _ (s : List ℕ) (at : ℕ) {g : Signed} {a : Digits} (p : SignAt s at g)
     plain : read_number (drop at s) ≡ finish p.sign ds whole (drop a.next s)
     plain = form ∙ rw (fraction_none (drop a.next s) n)
 
-    pub none_at_all : a.next ≡ g.next → Wrong a.next ≡ valued (map_p number_of (number_p s at))
+    pub none_at_all : a.next ≡ g.next → Err a.next ≡ valued (map_p number_of (number_p s at))
     unfolding number_p ds
     none_at_all e = sym (ap (λ (x : Read Number). valued (map_p number_of (place s x))) plain ∙ unmade s p.sign ds whole a.next on.1 (omega (arith, q.past)))
 
-    pub whole_number : (a.next ≡ g.next → ⊥) → {v : Worked} → v ≡ written g.negative a.number 0 → Came v a.next ≡ valued (map_p number_of (number_p s at))
+    pub whole_number : (a.next ≡ g.next → ⊥) → {v : Worked} → v ≡ written g.negative a.number 0 → with_place v a.next ≡ valued (map_p number_of (number_p s at))
     unfolding number_p ds number_of
     whole_number e {v} w =
-        ap (λ (x : Worked). Came x a.next) (w ∙ rw (p.minus, q.writes) (held_written (negative p.sign) (decimal 0 ds) 0 (omega arith) ∙ rw (append-nil ds)))
+        ap (λ (x : Worked). with_place x a.next) (w ∙ rw (p.minus, q.writes) (held_written (negative p.sign) (decimal 0 ds) 0 (omega arith) ∙ rw (append-nil ds)))
         ∙ sym (ap (λ (x : Read Number). valued (map_p number_of (place s x))) plain ∙ made s p.sign ds whole a.next on.1 (omega (arith, q.past, on)))
 
   module _ (n : pointed (drop a.next s) ≡ true) {b : Digits} (r : DigitsAt s (a.next + 1) a.number b) where
@@ -221,20 +193,20 @@ module _ (s : List ℕ) (at : ℕ) {g : Signed} {a : Digits} (p : SignAt s at g)
     far : (a.next + 1 ≤ b.next) × (b.next ≤ length s)
     far = run_on s (a.next + 1) a.number (point_on s a.next on.1 n) r
 
-    pub point_alone : b.next ≡ g.next + 1 → Wrong b.next ≡ valued (map_p number_of (number_p s at))
+    pub point_alone : b.next ≡ g.next + 1 → Err b.next ≡ valued (map_p number_of (number_p s at))
     unfolding number_p ds es
     point_alone e =
         sym (ap (λ (x : Read Number). valued (map_p number_of (place s x))) dotted ∙ unmade s p.sign ds (point es) b.next far.1 (omega (arith, q.past, r.past, on, far)))
 
     module _ (h : b.next ≡ g.next + 1 → ⊥) where
-      given : {v : Worked} → v ≡ number_of (num p.sign ds (point es)) → Came v b.next ≡ valued (map_p number_of (number_p s at))
+      given : {v : Worked} → v ≡ number_of (num p.sign ds (point es)) → with_place v b.next ≡ valued (map_p number_of (number_p s at))
       unfolding number_p ds es
       given {v} w =
-          ap (λ (x : Worked). Came x b.next) w
+          ap (λ (x : Worked). with_place x b.next) w
           ∙ sym (ap (λ (x : Read Number). valued (map_p number_of (place s x))) dotted ∙ made s p.sign ds (point es) b.next far.1 (omega (arith, q.past, r.past, on, far)))
 
       -- up to four decimals: all of them
-      pub decimal_number : b.next - (a.next + 1) ≤ 4 → {v : Worked} → v ≡ written g.negative b.number (b.next - (a.next + 1)) → Came v b.next ≡ valued (map_p number_of (number_p s at))
+      pub decimal_number : b.next - (a.next + 1) ≤ 4 → {v : Worked} → v ≡ written g.negative b.number (b.next - (a.next + 1)) → with_place v b.next ≡ valued (map_p number_of (number_p s at))
       unfolding number_of ds es
       decimal_number few w =
           let k : b.next - (a.next + 1) ≡ length es = omega (arith, r.past) in
@@ -244,7 +216,7 @@ module _ (s : List ℕ) (at : ℕ) {g : Signed} {a : Digits} (p : SignAt s at g)
 
       -- more: the first five, after the digits before the point, read anew
       pub fine_number : 4 < b.next - (a.next + 1) → {w f : Digits} → DigitsAt s g.next 0 w → DigitsAt (take (a.next + 1 + 5) s) (a.next + 1) w.number f → {v : Worked} → v ≡ written g.negative f.number 5 →
-          Came v b.next ≡ valued (map_p number_of (number_p s at))
+          with_place v b.next ≡ valued (map_p number_of (number_p s at))
       unfolding number_of ds es
       fine_number many {w} {f} u t e =
           let five = take_while digit (take 5 (drop (a.next + 1) s)) in
@@ -257,16 +229,7 @@ module _ (s : List ℕ) (at : ℕ) {g : Signed} {a : Digits} (p : SignAt s at g)
           ∙ rw (decimal_append 0 ds es))))
 
 -- ---- bytes
-pub eqb_swap : (a b : ℕ) → eqb a b ≡ eqb b a
-eqb_swap a b = elim (ℕ_discrete a b) [
-  | yes e ↦ (eq-eqb a b e ∙ sym (eq-eqb b a (sym e)))
-  | no h ↦ (ne_eqb a b h ∙ sym (ne_eqb b a (λ e. h (sym e))))
-]
-
 module _ (b : ℕ) (x : b ≡ 43 → ⊥) (y : b ≡ 45 → ⊥) (z : b ≡ 46 → ⊥) where
   sure : (c : Bool) → c || (eqb 43 b || (eqb 45 b || eqb 46 b)) ≡ c
   sure true = refl
   sure false = rw (ne_eqb 43 b (λ e. x (sym e)), ne_eqb 45 b (λ e. y (sym e)), ne_eqb 46 b (λ e. z (sym e)))
-
-  pub not_numeric : digit b ≡ false → false ≡ numeric b
-  not_numeric e = sym (sure (digit b) ∙ e)

@@ -1,10 +1,11 @@
 -- Form alone: one step of the way keeps what is still to come. The law behind it: a value's end is found by reading on with one bracket more, and an
 -- expression's end with its own; so one number stands for all the expressions that are open.
 -- Assumes nothing.
-use mathlib.Core.Path.{◌≡◌, refl, sym, ap, subst, ◌∙◌}
+use mathlib.Core.Path.{◌≡◌, refl, sym, ap, ◌∙◌}
 use mathlib.Core.Bool.{Bool, true, false}
 use mathlib.Core.List.{List}
 use Prim.Native.Nat.{ℕ, suc, ◌+◌, ◌-◌, ◌≤◌, ◌<◌}
+use Rattle.std.specs.Prelude.{Ok, Err}
 use native.Mathlib.Omega.{arith}
 use native.Mathlib.Numerals.{add-one}
 use lib.ListN.{length, drop}
@@ -14,18 +15,14 @@ use Rattle.grammar.proofs.Place.{Placed, wrong, found, bind_p, map_p, number_p, 
 use Rattle.grammar.proofs.Trees.{value_t, rest_t, expr_t, after_t, more_t, value_tree, rest_tree, value_ends}
 use Rattle.grammar.specs.declared.Op.{Op}
 use Rattle.grammar.specs.declared.Func.{Func}
-use Rattle.rules.specs.Meaning.{number_of}
-use Rattle.rules.specs.declared.Worked.{Worked}
+use Rattle.rules.specs.Meaning.{Worked, number_of}
 use Rattle.reader.specs.Places.{valued, opening, following, spelt_to}
-use Rattle.reader.specs.Passage.{value_e, rest_e, shut, due, onward, Onto, StepOf}
-use Rattle.reader.specs.declared.values.Valued.TheVariants.{To as Came, Wrong}
-use Rattle.reader.specs.declared.spelling.Spelt.TheVariants.{To, Not}
-use Rattle.reader.specs.declared.spelling.Opening.TheVariants.{Parameter, Bracket, Function, Wrong as NoOpening}
-use Rattle.reader.specs.declared.spelling.Following.TheVariants.{Close, Operator, Wrong as NoFollowing}
+use Rattle.reader.specs.Passage.{value_e, rest_e, shut, due, onward, Onto}
+use Rattle.reader.specs.declared.spelling.Opening.TheVariants.{Parameter, Bracket, Function}
+use Rattle.reader.specs.declared.spelling.Following.TheVariants.{Close, Operator}
 use Rattle.reader.specs.declared.passage.Way.{Way}
-use Rattle.reader.specs.declared.passage.Step.{Step}
 use Rattle.reader.proofs.Clash.{clash}
-use Rattle.reader.proofs.Evaluating.{parameter_is, bracket_is, function_is, no_opening_is, close_is, operator_is, no_following_is, parameter_end, bracket_end, function_end, operator_end}
+use Rattle.reader.proofs.Evaluating.{with_place, place_one, parameter_is, bracket_is, function_is, no_opening_is, close_is, operator_is, no_following_is, parameter_end, bracket_end, function_end, operator_end}
 
 -- the place alone
 abbrev bare_place : {X : Type 0} → Placed X → Placed (Unit {0})
@@ -40,11 +37,11 @@ in_turn (wrong p) f g = refl
 in_turn (found a p) f g = refl
 
 -- a number by what the code says of it
-number_found : (m : Placed Number) {a : Worked} {p : ℕ} → Came a p ≡ valued (map_p number_of m) → bare_place (map_p number m) ≡ found tt p
+number_found : (m : Placed Number) {a : Worked} {p : ℕ} → with_place a p ≡ valued (map_p number_of m) → bare_place (map_p number m) ≡ found tt p
 number_found (wrong q) e = clash (cc)
-number_found (found n q) {a} {p} e = let k : q ≡ p = cc in ap (found tt) k
+number_found (found n q) e = ap (found tt) (sym (place_one e))
 
-number_lost : (m : Placed Number) {p : ℕ} → Wrong p ≡ valued (map_p number_of m) → bare_place (map_p number m) ≡ wrong p
+number_lost : (m : Placed Number) {p : ℕ} → Err p ≡ valued (map_p number_of m) → bare_place (map_p number m) ≡ wrong p
 number_lost (wrong q) {p} e = let k : q ≡ p = cc in ap wrong k
 number_lost (found n q) e = clash (cc)
 
@@ -134,19 +131,19 @@ way at d k = record { at = at; due = d; brackets = k }
 -- ---- one step, in the code's answers
 module _ (s : List ℕ) (at k : ℕ) (l : at ≤ length s) (d : k ≤ at) where
   module _ (o : opens_number (drop at s) ≡ true) where
-    pub step_number : {a : Worked} {p : ℕ} → Came a p ≡ valued (map_p number_of (number_p s at)) → Onto s (way at true k) (way p false k)
+    pub step_number : {a : Worked} {p : ℕ} → with_place a p ≡ valued (map_p number_of (number_p s at)) → Onto s (way at true k) (way p false k)
     unfolding onward
     step_number {a} {p} h =
         let e = is_number s at o ∙ number_found (number_p s at) h in
         let z = value_stays s at l e in
         record { same = sym (due_found s at k e); within = z.1; opened = omega (arith, z); less = omega (arith, z) }
 
-    pub step_no_number : {p : ℕ} → Wrong p ≡ valued (map_p number_of (number_p s at)) → Not p ≡ spelt_to (onward s (way at true k))
+    pub step_no_number : {p : ℕ} → Err p ≡ valued (map_p number_of (number_p s at)) → Err p ≡ spelt_to (onward s (way at true k))
     unfolding onward
     step_no_number {p} h = rw (due_lost s at k (is_number s at o ∙ number_lost (number_p s at) h))
 
   module _ (o : opens_number (drop at s) ≡ false) where
-    pub step_parameter : {p : ℕ} → Parameter p ≡ opening (head_p s at) → Onto s (way at true k) (way p true k)
+    pub step_parameter : {p : ℕ} → with_place Parameter p ≡ opening (head_p s at) → Onto s (way at true k) (way p true k)
     unfolding onward
     step_parameter {p} h =
         let z = parameter_end s at l h in
@@ -157,42 +154,40 @@ module _ (s : List ℕ) (at k : ℕ) (l : at ≤ length s) (d : k ≤ at) where
     deeper {p} z h =
         record { same = rw add-one (sym (due_deeper s at k p h)); within = z.1; opened = omega (arith, z); less = omega (arith, z) }
 
-    pub step_bracket : {p : ℕ} → Bracket p ≡ opening (head_p s at) → Onto s (way at true k) (way p true (k + 1))
+    pub step_bracket : {p : ℕ} → with_place Bracket p ≡ opening (head_p s at) → Onto s (way at true k) (way p true (k + 1))
     step_bracket h = deeper (bracket_end s at l h) (value_bare s at o (bracket_is (head_p s at) h))
 
-    pub step_function : {g : Func} {p : ℕ} → Function g p ≡ opening (head_p s at) → Onto s (way at true k) (way p true (k + 1))
+    pub step_function : {g : Func} {p : ℕ} → with_place (Function g) p ≡ opening (head_p s at) → Onto s (way at true k) (way p true (k + 1))
     step_function h = deeper (function_end s at l h) (value_call s at o (function_is (head_p s at) h))
 
-    pub step_no_opening : {p : ℕ} → NoOpening p ≡ opening (head_p s at) → Not p ≡ spelt_to (onward s (way at true k))
+    pub step_no_opening : {p : ℕ} → Err p ≡ opening (head_p s at) → Err p ≡ spelt_to (onward s (way at true k))
     unfolding onward
     step_no_opening h = rw (due_lost s at k (value_none s at o (no_opening_is (head_p s at) h)))
 
-  pub step_past : k ≡ 0 → To at ≡ spelt_to (onward s (way at false k))
-  unfolding onward
-  step_past e = rw e
-
-  module _ (n : k ≡ 0 → ⊥) where
+  module _ (n : 0 < k) where
     one : k ≡ suc (k - 1)
     one = omega arith
 
-    pub step_close : {p : ℕ} → Close p ≡ following (tail_p s at) → Onto s (way at false k) (way p false (k - 1))
+    pub step_close : {p : ℕ} → with_place Close p ≡ following (tail_p s at) → Onto s (way at false k) (way p false (k - 1))
     unfolding onward
     step_close {p} h =
         let z = tail_on s at close p l (close_is (tail_p s at) h) in
         record { same = sym (ap (λ (x : ℕ). shut s x at) one ∙ shut_close s at (k - 1) (rest_close s at (close_is (tail_p s at) h))); within = z.1; opened = omega (arith, z); less = omega (arith, z) }
 
-    pub step_operator : {o : Op} {p : ℕ} → Operator o p ≡ following (tail_p s at) → Onto s (way at false k) (way p true k)
+    pub step_operator : {o : Op} {p : ℕ} → with_place (Operator o) p ≡ following (tail_p s at) → Onto s (way at false k) (way p true k)
     unfolding onward
     step_operator {o} {p} h =
         let z = operator_end s at l h in
         record { same = sym (ap (λ (x : ℕ). shut s x at) one ∙ shut_more s at (k - 1) p (rest_more s at (operator_is (tail_p s at) h)) ∙ ap (λ (x : ℕ). due s x p) (sym one)); within = z.1; opened = omega (arith, z); less = omega (arith, z) }
 
-    pub step_no_following : {p : ℕ} → NoFollowing p ≡ following (tail_p s at) → Not p ≡ spelt_to (onward s (way at false k))
+    pub step_no_following : {p : ℕ} → Err p ≡ following (tail_p s at) → Err p ≡ spelt_to (onward s (way at false k))
     unfolding onward
     step_no_following {p} h = ap spelt_to (sym (ap (λ (x : ℕ). shut s x at) one ∙ shut_lost s at (k - 1) (rest_none s at (no_following_is (tail_p s at) h))))
 
-pub step_by : (s : List ℕ) (w : Way) (r : Step) {d : Bool} → w.due ≡ d → StepOf s (way w.at d w.brackets) r → StepOf s w r
-step_by s w r {d} e h = subst (λ (x : Bool). StepOf s (way w.at x w.brackets) r) (sym e) h
+-- with no value due and no bracket open, all is passed
+pub all_passed : (s : List ℕ) (w : Way) → w.due ≡ false → w.brackets ≡ 0 → Ok w.at ≡ spelt_to (onward s w)
+unfolding onward
+all_passed s w d k = rw (d, k)
 
 -- ---- the whole way from a value
 

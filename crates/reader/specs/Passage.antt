@@ -1,13 +1,11 @@
 -- Form alone, by places: the place past a value, and past the rest of an expression, or the first wrong place. What is left to come at a place is said by
 -- the number of open brackets and by whether a value is due or done.
 -- Assumes nothing.
-use Rattle.std.specs.Prelude.{◌≡◌, cond, List, ℕ, zero, suc, ◌+◌, ◌-◌, ◌*◌, ◌≤◌, ◌<◌, length}
+use Rattle.std.specs.Prelude.{◌≡◌, cond, List, Result, Ok, Err, ℕ, zero, suc, ◌+◌, ◌-◌, ◌*◌, ◌≤◌, ◌<◌, length}
 use Rattle.grammar.proofs.Place.{Placed, found, bind_p, map_p}
 use Rattle.grammar.proofs.Trees.{value_t, rest_t}
 use Rattle.reader.specs.Places.{spelt_to}
 use Rattle.reader.specs.declared.passage.Way.{Way}
-use Rattle.reader.specs.declared.passage.Step.{Step}
-use Rattle.reader.specs.declared.passage.Step.TheVariants.{On, End}
 
 module _ (s : List ℕ) where
   -- past a value, and past the rest of an expression with its `]`
@@ -41,6 +39,7 @@ module _ (s : List ℕ) where
     pub opened : to.brackets ≤ to.at
     pub less : left to < left from
 
-  abbrev pub StepOf : Way → Step → Type 0
-  StepOf w (On to) = Onto w to
-  StepOf w (End end) = end ≡ spelt_to (onward w)
+  -- a step on, or the place where what is to come is wrong
+  abbrev pub StepOf : Way → Result Way ℕ → Type 0
+  StepOf w (Ok to) = Onto w to
+  StepOf w (Err p) = Err p ≡ spelt_to (onward w)

@@ -1,59 +1,54 @@
 -- What the functions that read answer, from what the grammar's reader by places says. No public contract cites it.
 -- Assumes nothing.
-use Rattle.std.specs.Prelude.{◌≡◌, Bool, false, List, [], ◌∷◌, ℕ, ◌+◌, ◌-◌, ◌*◌, ◌≤◌, min, eqb, length, drop}
+use Rattle.std.specs.Prelude.{◌≡◌, Bool, false, List, [], ◌∷◌, Result, Ok, Err, ℕ, ◌+◌, ◌-◌, ◌*◌, ◌≤◌, min, eqb, length, drop}
 use Rattle.grammar.specs.Bytes.{byte}
 use Rattle.grammar.specs.Grammar.{digit, remark, Sign}
 use Rattle.grammar.proofs.Read.{got, read_sign, take_while, Head, hash, bare, call, Tail, close, oper}
 use Rattle.grammar.proofs.Place.{Placed, wrong, found}
-use Rattle.rules.specs.Meaning.{decimal, negative}
+use Rattle.rules.specs.Meaning.{Worked, decimal, negative}
 use Rattle.grammar.specs.declared.Op.{Op}
 use Rattle.grammar.specs.declared.Func.{Func}
-use Rattle.rules.specs.declared.Worked.{Worked}
-use Rattle.reader.specs.declared.values.Valued.{Valued}
-use Rattle.reader.specs.declared.values.Valued.TheVariants.{To as Came, Wrong as NoValue}
-use Rattle.reader.specs.declared.spelling.Spelt.{Spelt}
-use Rattle.reader.specs.declared.spelling.Spelt.TheVariants.{To, Not}
 use Rattle.reader.specs.declared.spelling.Opening.{Opening}
-use Rattle.reader.specs.declared.spelling.Opening.TheVariants.{Parameter, Bracket, Function, Wrong as NoOpening}
+use Rattle.reader.specs.declared.spelling.Opening.TheVariants.{Parameter, Bracket, Function}
 use Rattle.reader.specs.declared.spelling.Following.{Following}
-use Rattle.reader.specs.declared.spelling.Following.TheVariants.{Close, Operator, Wrong as NoFollowing}
+use Rattle.reader.specs.declared.spelling.Following.TheVariants.{Close, Operator}
 use Rattle.reader.specs.declared.numbers.Signed.{Signed}
 use Rattle.reader.specs.declared.numbers.Digits.{Digits}
 
 -- ---- spellings
 
 -- past a spelling or a tree, or where its form is wrong
-abbrev pub spelt_to : {X : Type 0} → Placed X → Spelt
-spelt_to (wrong p) = Not p
-spelt_to (found _ p) = To p
+abbrev pub spelt_to : {X : Type 0} → Placed X → Result ℕ ℕ
+spelt_to (wrong p) = Err p
+spelt_to (found _ p) = Ok p
 
 -- what opens a value that is no number
-abbrev pub opening_by : Head → ℕ → Opening
-opening_by hash p = Parameter p
-opening_by bare p = Bracket p
-opening_by (call f) p = Function f p
+abbrev pub opening_by : Head → Opening
+opening_by hash = Parameter
+opening_by bare = Bracket
+opening_by (call f) = Function f
 
-abbrev pub opening : Placed Head → Opening
-opening (wrong p) = NoOpening p
-opening (found h p) = opening_by h p
+abbrev pub opening : Placed Head → Result (Opening × ℕ) ℕ
+opening (wrong p) = Err p
+opening (found h p) = Ok (opening_by h, p)
 
 -- what follows a value in an expression
-abbrev pub following_by : Tail → ℕ → Following
-following_by close p = Close p
-following_by (oper o) p = Operator o p
+abbrev pub following_by : Tail → Following
+following_by close = Close
+following_by (oper o) = Operator o
 
-abbrev pub following : Placed Tail → Following
-following (wrong p) = NoFollowing p
-following (found t p) = following_by t p
+abbrev pub following : Placed Tail → Result (Following × ℕ) ℕ
+following (wrong p) = Err p
+following (found t p) = Ok (following_by t, p)
 
 -- a function, or an operator, once the rest of its name is looked at
-abbrev pub function_after : Spelt → Func → Opening
-function_after (To p) f = Function f p
-function_after (Not p) f = NoOpening p
+abbrev pub function_after : Result ℕ ℕ → Func → Result (Opening × ℕ) ℕ
+function_after (Ok p) f = Ok (Function f, p)
+function_after (Err p) f = Err p
 
-abbrev pub operator_after : Spelt → Op → Following
-operator_after (To p) o = Operator o p
-operator_after (Not p) o = NoFollowing p
+abbrev pub operator_after : Result ℕ ℕ → Op → Result (Following × ℕ) ℕ
+operator_after (Ok p) o = Ok (Operator o, p)
+operator_after (Err p) o = Err p
 
 -- ---- numbers
 
@@ -80,9 +75,9 @@ pub record DigitsAt (s : List ℕ) (at number : ℕ) (r : Digits) : Type 0 where
   pub past : r.next ≡ at + length (take_while digit (drop at s))
 
 -- what a number came to and the place past it, or where its form is wrong
-abbrev pub valued : Placed Worked → Valued
-valued (wrong p) = NoValue p
-valued (found a p) = Came a p
+abbrev pub valued : Placed Worked → Result (Worked × ℕ) ℕ
+valued (wrong p) = Err p
+valued (found a p) = Ok (a, p)
 
 -- ---- comments
 

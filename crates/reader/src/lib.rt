@@ -4,6 +4,7 @@
 // wherever it stands, comes before too deep a nesting, and that before the numbers 5 to 7.
 #![tactic(auto)]
 
+mod answer;
 mod cursor;
 mod items;
 mod label;
@@ -11,9 +12,12 @@ mod line;
 mod mark;
 mod numbers;
 mod passage;
+mod spaces;
 mod spelling;
 mod terms;
 mod values;
 
-pub use label::{LineNumber, line_number};
-pub use line::{FormAnswer, Reading, form, read};
+pub use answer::{FormError, Read, Unread};
+pub use label::line_number;
+pub use line::{form, read};
+pub use spaces::Spaces;

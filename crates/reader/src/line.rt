@@ -1,292 +1,185 @@
 // The whole line: what is read is stored in lent spaces, in order.
-ghost use Rattle.std.specs.Prelude.{◌≡◌, cond, ◌+◌, ◌≤◌, ◌<◌, length, set};
+ghost use Rattle.std.specs.Prelude.{◌≡◌, ◌≤◌, length, Err};
 ghost use Rattle.grammar.specs.Derivation.{ByForm};
 ghost use Rattle.grammar.proofs.Trees.{items_t, label_t, line_t};
 ghost use Rattle.reader.specs.Places.{spelt_to};
-ghost use Rattle.reader.specs.Gather.{checked, ended, left_after, left_by_line, tidied};
-ghost use Rattle.reader.specs.Reading.{spaces, zeros, form_answer, Reads};
+ghost use Rattle.reader.specs.Gather.{checked, ended, left_after, left_by_line, tidied, as_typed};
+ghost use Rattle.reader.specs.Reading.{left, form_answer, Reads};
 
+use super::answer::{FormError, Read, Unread};
 use super::cursor::item_from;
 use super::items::{Item, item_end};
-use super::mark::{Begun, Marked, mark_at, mark_end};
+use super::mark::{Begun, mark_at, mark_end};
 use super::numbers::digits_from;
-use super::spelling::Spelt;
-use rules::Value;
-use text::{Prepared, prepare, typed_place};
-
-// What became of a line.
-#[derive(Clone, Copy)]
-pub enum Reading {
-    // It is read: so many words and so many settings are stored, and so much work it was.
-    Read(usize, usize, u64),
-    // Its form is right, but it is refused with this number, 5 to 7: the first in working order. Or its
-    // condition says no, and 100 says that it is skipped.
-    Stopped(u8),
-    // Its form is right, but some value of it nests deeper than 24; the lent spaces hold zeros.
-    Deep,
-    // It has no derivation. The place in the line, as typed, at which its form breaks; the lent spaces
-    // hold zeros.
-    Wrong(usize),
-    // It has more than 256 bytes.
-    TooLong,
-}
-
-// The form check's answer: 0 for a right form, 2 for more than 256 bytes, 3 for a wrong form; and with
-// 3 the place in the line, as typed, at which its form breaks, with any other 0.
-#[derive(Clone, Copy)]
-pub struct FormAnswer {
-    pub number: u8,
-    pub place: usize,
-}
-
-// Whether the form is right to the line's end, and if not, where among the prepared bytes it is wrong.
-#[derive(Clone, Copy)]
-pub(crate) enum Checked {
-    Right,
-    Wrong(usize),
-}
+use super::spaces::Spaces;
+use text::{prepare, typed_place};
 
 // The place past N and its one to five digits, where N stands here.
-pub(crate) fn label_end(text: &[u8], at: usize) -> Spelt
+pub(crate) fn label_end(text: &[u8], at: usize) -> Result<usize, usize>
     requires { at ≤ length text.now }
     ensures { result ≡ spelt_to (label_t text.now at) }
 {
-    if text.len() <= at {
-        return Spelt::To(at);
-    }
-    if text[at] != b'N' {
-        return Spelt::To(at);
+    if text.len() <= at || text[at] != b'N' {
+        return Ok(at);
     }
     let digits = digits_from(text, at + 1, 0);
     if digits.next == at + 1 {
-        return Spelt::Not(digits.next);
+        return Err(digits.next);
     }
     if at + 6 < digits.next {
-        return Spelt::Not(at + 6);
+        return Err(at + 6);
     }
-    Spelt::To(digits.next)
+    Ok(digits.next)
 }
 
-// The form of the items from here on.
-pub(crate) fn check_from(text: &[u8], at: usize) -> Checked
+// Whether the form is right from an item on to the line's end, and if not, where among the prepared bytes it
+// is wrong. No `for`: each step goes past a whole item.
+pub(crate) fn check_from(text: &[u8], at: usize) -> Result<(), usize>
     requires { at ≤ length text.now }
     ensures { result ≡ checked (items_t text.now at) }
 {
     let mut i = at;
     while i < text.len() {
-        match item_end(text, i) {
-            Spelt::To(next) => i = next,
-            Spelt::Not(p) => return Checked::Wrong(p),
-        }
+        i = item_end(text, i)?;
     }
-    Checked::Right
-}
-
-// Stores a word in place n, and answers how many there are then.
-fn store_word(
-    letters: &mut [u8; 128],
-    values: &mut [i64; 128],
-    n: usize,
-    letter: u8,
-    value: Value,
-) -> usize
-    requires { n < 128 }
-    ensures { (result ≡ n + 1) × (letters.new ≡ set letters.old n letter) × (values.new ≡ set values.old n value.0) }
-{
-    let amount = value.0;
-    letters[n] = letter;
-    values[n] = amount;
-    n + 1
-}
-
-// Stores a setting in place n, and answers how many there are then.
-fn store_setting(
-    numbers: &mut [usize; 64],
-    amounts: &mut [i64; 64],
-    n: usize,
-    number: usize,
-    value: Value,
-) -> usize
-    requires { n < 64 }
-    ensures { (result ≡ n + 1) × (numbers.new ≡ set numbers.old n number) × (amounts.new ≡ set amounts.old n value.0) }
-{
-    let amount = value.0;
-    numbers[n] = number;
-    amounts[n] = amount;
-    n + 1
-}
-
-// Of two refusals the first in working order counts.
-fn first_refusal(stopped: bool, number: u8, next: u8) -> u8
-    ensures { result ≡ cond stopped number next }
-{
-    if stopped {
-        return number;
-    }
-    next
+    Ok(())
 }
 
 // The answer at the end of a line of right form.
-fn ended(deep: bool, stopped: bool, number: u8, words: usize, settings: usize, work: u64) -> Reading
-    ensures { result ≡ ended deep stopped number words settings work }
+fn ended(
+    deep: bool,
+    stopped: Option<Unread>,
+    words: usize,
+    settings: usize,
+    work: u64,
+) -> Result<Read, Unread>
+    ensures { result ≡ ended deep stopped words settings work }
 {
     if deep {
-        return Reading::Deep;
+        return Err(Unread::Deep);
     }
-    if stopped {
-        return Reading::Stopped(number);
+    match stopped {
+        Some(why) => Err(why),
+        None => Ok(Read {
+            words,
+            settings,
+            work,
+        }),
     }
-    Reading::Read(words, settings, work)
 }
 
-// Reads the items from here on, after what the mark left, and stores their words and settings up to the first that is refused.
-// The form of those after it, or after one that nests too deep, is read in the same loop, so that the
-// compiler puts the items' code into it.
+// Reads the items from here on, after what the mark left, and stores their words and settings up to the
+// first that is refused. The form of those after it, or after one that nests too deep, is read in the same
+// loop, so that the compiler puts the items' code into it. No `for`: each step goes past a whole item.
 fn gather(
     text: &[u8],
     table: &[i64],
     at: usize,
     begun: Begun,
-    letters: &mut [u8; 128],
-    values: &mut [i64; 128],
-    numbers: &mut [usize; 64],
-    amounts: &mut [i64; 64],
-) -> Reading
+    spaces: &mut Spaces,
+) -> Result<Read, Unread>
     requires { (at ≤ length text.now) × (length text.now ≤ 256) × (begun.work ≤ at) }
-    ensures { tidied result (spaces letters.new values.new numbers.new amounts.new) ≡ left_after table.now begun (spaces letters.old values.old numbers.old amounts.old) (items_t text.now at) }
+    ensures { tidied result spaces.new ≡ left_after table.now begun spaces.old (items_t text.now at) }
 {
     let mut words: usize = 0;
     let mut settings: usize = 0;
     let mut work = begun.work;
     let mut deep = begun.deep;
     let mut stopped = begun.stopped;
-    let mut number = begun.number;
     let mut i = at;
     loop {
         match item_from(text, table, i) {
-            Item::Word(letter, value, more, next) => {
+            Ok(Item::Word(letter, value, more, next)) => {
                 i = next;
-                if !stopped {
-                    words = store_word(letters, values, words, letter, value);
+                if stopped.is_none() {
+                    words = spaces.store_word(words, letter, value);
                     work += more;
                 }
             }
-            Item::Setting(parameter, value, more, next) => {
+            Ok(Item::Setting(parameter, value, more, next)) => {
                 i = next;
-                if !stopped {
-                    settings = store_setting(numbers, amounts, settings, parameter, value);
+                if stopped.is_none() {
+                    settings = spaces.store_setting(settings, parameter, value);
                     work += more;
                 }
             }
-            Item::Comment(next) => i = next,
-            Item::Stop(n, next) => {
+            Ok(Item::Comment(next)) => i = next,
+            Ok(Item::Stop(why, next)) => {
                 i = next;
-                number = first_refusal(stopped, number, n);
-                stopped = true;
+                stopped = stopped.or(Some(Unread::Refused(why)));
             }
-            Item::Deep(next) => {
+            Ok(Item::Deep(next)) => {
                 i = next;
                 deep = true;
             }
-            Item::Wrong(p) => return Reading::Wrong(p),
-            Item::End => return ended(deep, stopped, number, words, settings, work),
+            Ok(Item::End) => return ended(deep, stopped, words, settings, work),
+            Err(p) => return Err(Unread::Wrong(p)),
         }
     }
 }
 
 // A prepared line, stored likewise.
-fn read_text(
-    text: &[u8],
-    table: &[i64],
-    letters: &mut [u8; 128],
-    values: &mut [i64; 128],
-    numbers: &mut [usize; 64],
-    amounts: &mut [i64; 64],
-) -> Reading
+fn read_text(text: &[u8], table: &[i64], spaces: &mut Spaces) -> Result<Read, Unread>
     requires { length text.now ≤ 256 }
-    ensures { tidied result (spaces letters.new values.new numbers.new amounts.new) ≡ left_by_line table.now (line_t text.now) (spaces letters.old values.old numbers.old amounts.old) }
+    ensures { tidied result spaces.new ≡ left_by_line table.now (line_t text.now) spaces.old }
 {
     match mark_at(text, table) {
-        Marked::Past(begun, p) => match label_end(text, p) {
-            Spelt::To(q) => gather(text, table, q, begun, letters, values, numbers, amounts),
-            Spelt::Not(q) => Reading::Wrong(q),
+        Ok((begun, p)) => match label_end(text, p) {
+            Ok(q) => gather(text, table, q, begun, spaces),
+            Err(q) => Err(Unread::Wrong(q)),
         },
-        Marked::Wrong(p) => Reading::Wrong(p),
+        Err(p) => Err(Unread::Wrong(p)),
     }
 }
 
-// Nothing of a line of wrong form, or of too deep a nesting, is left to be taken for a word or a setting.
-fn clear(
-    letters: &mut [u8; 128],
-    values: &mut [i64; 128],
-    numbers: &mut [usize; 64],
-    amounts: &mut [i64; 64],
-)
-    ensures { spaces letters.new values.new numbers.new amounts.new ≡ zeros }
+// Why a line is not read, with the place of a wrong form in the line as typed. Nothing of a line of wrong form,
+// or of too deep a nesting, is left to be taken for a word or a setting.
+fn unread(line: &[u8], why: Unread, spaces: &mut Spaces) -> Unread
+    ensures { left (Err result) spaces.new ≡ as_typed line.now (tidied (Err why) spaces.old) }
 {
-    *letters = [0u8; 128];
-    *values = [0i64; 128];
-    *numbers = [0usize; 64];
-    *amounts = [0i64; 64];
+    match why {
+        Unread::Wrong(p) => {
+            spaces.clear();
+            Unread::Wrong(typed_place(line, p))
+        }
+        Unread::Deep => {
+            spaces.clear();
+            why
+        }
+        Unread::Refused(_) | Unread::Skipped | Unread::TooLong => why,
+    }
 }
 
 // Reads a line: its words' letters and values, and its settings' parameter numbers and values, are
 // stored from the front of the lent spaces, in order. Values are worked out from the table as it is.
-pub fn read(
-    line: &[u8],
-    table: &[i64],
-    letters: &mut [u8; 128],
-    values: &mut [i64; 128],
-    numbers: &mut [usize; 64],
-    amounts: &mut [i64; 64],
-) -> Reading
-    ensures { Reads line.now table.now (spaces letters.old values.old numbers.old amounts.old) result (spaces letters.new values.new numbers.new amounts.new) }
+pub fn read(line: &[u8], table: &[i64], spaces: &mut Spaces) -> Result<Read, Unread>
+    ensures { Reads line.now table.now spaces.old result spaces.new }
 {
     let mut text = [0u8; 256];
-    let Prepared::Bytes(n) = prepare(line, &mut text) else {
-        return Reading::TooLong;
-    };
-    let reading = read_text(&text[..n], table, letters, values, numbers, amounts);
-    match reading {
-        Reading::Wrong(p) => {
-            clear(letters, values, numbers, amounts);
-            return Reading::Wrong(typed_place(line, p));
-        }
-        Reading::Deep => clear(letters, values, numbers, amounts),
-        _ => {}
+    let n = prepare(line, &mut text).ok_or(Unread::TooLong)?;
+    match read_text(&text[..n], table, spaces) {
+        Ok(read) => Ok(read),
+        Err(why) => Err(unread(line, why, spaces)),
     }
-    reading
 }
 
 // The form of a prepared line. Nothing is worked out, so no table is asked for.
-fn check_text(text: &[u8]) -> Checked
+fn check_text(text: &[u8]) -> Result<(), usize>
     ensures { result ≡ checked (line_t text.now) }
 {
-    match mark_end(text) {
-        Spelt::To(p) => match label_end(text, p) {
-            Spelt::To(q) => check_from(text, q),
-            Spelt::Not(q) => Checked::Wrong(q),
-        },
-        Spelt::Not(p) => Checked::Wrong(p),
-    }
+    let p = mark_end(text)?;
+    let q = label_end(text, p)?;
+    check_from(text, q)
 }
 
 // The form check. Nothing is worked out.
-pub fn form(line: &[u8]) -> FormAnswer
+pub fn form(line: &[u8]) -> Result<(), FormError>
     ensures { ByForm line.now (form_answer line.now) result }
 {
     let mut text = [0u8; 256];
-    match prepare(line, &mut text) {
-        Prepared::Bytes(n) => match check_text(&text[..n]) {
-            Checked::Right => told(0, 0),
-            Checked::Wrong(p) => told(3, typed_place(line, p)),
-        },
-        Prepared::TooLong => told(2, 0),
+    let n = prepare(line, &mut text).ok_or(FormError::TooLong)?;
+    match check_text(&text[..n]) {
+        Ok(()) => Ok(()),
+        Err(p) => Err(FormError::BreaksAt(typed_place(line, p))),
     }
-}
-
-fn told(number: u8, place: usize) -> FormAnswer
-    ensures { result ≡ record { number = number; place = place } }
-{
-    FormAnswer { number, place }
 }

@@ -6,12 +6,13 @@ ghost use Rattle.rules.specs.Meaning.{runs, condition_of};
 ghost use Rattle.reader.specs.Places.{spelt_to};
 ghost use Rattle.reader.specs.Marks.{stroke_of, first_of, after_stroke, goes_on, stops_with, nests_deep, begun_by, of_mark};
 
+use super::answer::Unread;
 use super::passage::pass_value;
-use super::spelling::Spelt;
-use super::values::{Nested, value_at};
+use super::values::{NoValue, value_at};
 use rules::{Value, Worked};
 
-// What stands first: no mark, a plain one, or one with a condition, and whether that one is `/`.
+// What stands first: no mark, a plain one, or one with a condition, and whether that one is `/`. These are
+// three cases of one rank, so no Option.
 #[derive(Clone, Copy)]
 enum First {
     Unmarked,
@@ -20,48 +21,24 @@ enum First {
 }
 
 // What the mark leaves to the reading of the items: the work of its condition, whether that nests too
-// deep, and whether it stops the line, with which number.
+// deep, and why it stops the line, where it does.
 #[derive(Clone, Copy)]
 pub(crate) struct Begun {
     pub(crate) work: u64,
     pub(crate) deep: bool,
-    pub(crate) stopped: bool,
-    pub(crate) number: u8,
-}
-
-// What a mark leaves and the place past it, or the place where its form is wrong.
-#[derive(Clone, Copy)]
-pub(crate) enum Marked {
-    Past(Begun, usize),
-    Wrong(usize),
+    pub(crate) stopped: Option<Unread>,
 }
 
 // A mark bears a condition where a bracket opens directly after it.
-fn after_stroke(text: &[u8], slash: bool) -> First
-    ensures { result ≡ after_stroke slash (drop 1 text.now) }
-{
-    if text.len() <= 1 {
-        return First::Plain;
-    }
-    if text[1] == b'[' {
-        return First::Condition(slash);
-    }
-    First::Plain
-}
-
 fn first_of(text: &[u8]) -> First
     ensures { result ≡ first_of text.now }
 {
-    if text.len() == 0 {
-        return First::Unmarked;
+    match text {
+        [b'/', b'[', ..] => First::Condition(true),
+        [b'\\', b'[', ..] => First::Condition(false),
+        [b'/' | b'\\', ..] => First::Plain,
+        _ => First::Unmarked,
     }
-    if text[0] == b'/' {
-        return after_stroke(text, true);
-    }
-    if text[0] == b'\\' {
-        return after_stroke(text, false);
-    }
-    First::Unmarked
 }
 
 // The line goes on, after so much work.
@@ -71,19 +48,17 @@ fn goes_on(work: u64) -> Begun
     Begun {
         work,
         deep: false,
-        stopped: false,
-        number: 0,
+        stopped: None,
     }
 }
 
-fn stops_with(number: u8) -> Begun
-    ensures { result ≡ stops_with number }
+fn stops_with(why: Unread) -> Begun
+    ensures { result ≡ stops_with why }
 {
     Begun {
         work: 0,
         deep: false,
-        stopped: true,
-        number,
+        stopped: Some(why),
     }
 }
 
@@ -93,8 +68,7 @@ fn nests_deep() -> Begun
     Begun {
         work: 0,
         deep: true,
-        stopped: false,
-        number: 0,
+        stopped: None,
     }
 }
 
@@ -108,45 +82,45 @@ fn runs(slash: bool, came: Value) -> bool
     slash
 }
 
-// A condition that says no stops the line with a skip's number, 100; one that is refused stops it with its
-// own.
+// A condition that says no skips the line; one that is refused has it refused.
 fn condition(slash: bool, came: Worked, work: u64) -> Begun
     ensures { result ≡ begun_by (condition_of (stroke_of slash) came) work }
 {
     match came {
-        Worked::Good(v) => {
+        Ok(v) => {
             if runs(slash, v) {
                 return goes_on(work);
             }
-            stops_with(100)
+            stops_with(Unread::Skipped)
         }
-        Worked::Bad(n) => stops_with(n),
+        Err(why) => stops_with(Unread::Refused(why)),
     }
 }
 
-// The mark of a line and its condition. The condition is read as its bracket would be that stood for a
-// value: that nests as deep, and is one value more to work out than a condition is.
-pub(crate) fn mark_at(text: &[u8], table: &[i64]) -> Marked
+// The mark of a line and its condition: what it leaves and the place past it, or the place where its form is
+// wrong. The condition is read as its bracket would be that stood for a value: that nests as deep, and is one
+// value more to work out than a condition is.
+pub(crate) fn mark_at(text: &[u8], table: &[i64]) -> Result<(Begun, usize), usize>
     ensures { result ≡ of_mark table.now (mark_t text.now) }
 {
     match first_of(text) {
-        First::Unmarked => Marked::Past(goes_on(0), 0),
-        First::Plain => Marked::Past(goes_on(0), 1),
+        First::Unmarked => Ok((goes_on(0), 0)),
+        First::Plain => Ok((goes_on(0), 1)),
         First::Condition(slash) => match value_at(text, table, 1) {
-            Nested::To(came, work, p) => Marked::Past(condition(slash, came, work - 1), p),
-            Nested::Deep(p) => Marked::Past(nests_deep(), p),
-            Nested::Wrong(p) => Marked::Wrong(p),
+            Ok(came) => Ok((condition(slash, came.worked, came.work - 1), came.next)),
+            Err(NoValue::Deep(p)) => Ok((nests_deep(), p)),
+            Err(NoValue::Wrong(p)) => Err(p),
         },
     }
 }
 
-// The place past the mark of a line: its form alone.
-pub(crate) fn mark_end(text: &[u8]) -> Spelt
+// The place past the mark of a line, or where its form is wrong: its form alone.
+pub(crate) fn mark_end(text: &[u8]) -> Result<usize, usize>
     ensures { result ≡ spelt_to (mark_t text.now) }
 {
     match first_of(text) {
-        First::Unmarked => Spelt::To(0),
-        First::Plain => Spelt::To(1),
+        First::Unmarked => Ok(0),
+        First::Plain => Ok(1),
         First::Condition(_) => pass_value(text, 1),
     }
 }

@@ -5,7 +5,8 @@ ghost use Rattle.grammar.proofs.Place.{map_p, number_p};
 ghost use Rattle.rules.specs.Meaning.{number_of};
 ghost use Rattle.reader.specs.Places.{valued, pointed, with_digit, SignAt, DigitsAt};
 
-use super::values::Valued;
+use rules::Worked;
+use text::bytes::is_digit;
 
 // Whether there is a minus sign, and the place past the sign.
 #[derive(Clone, Copy)]
@@ -26,15 +27,7 @@ pub(crate) struct Digits {
 fn is_numeric(b: u8) -> bool
     ensures { result ≡ numeric b }
 {
-    if b'0' <= b && b <= b'9' {
-        return true;
-    }
-    match b {
-        b'+' => true,
-        b'-' => true,
-        b'.' => true,
-        _ => false,
-    }
+    is_digit(b) || matches!(b, b'+' | b'-' | b'.')
 }
 
 // Whether a number begins here.
@@ -79,8 +72,7 @@ fn with_digit(number: u64, digit: u8) -> u64
     requires le_digit { 48 ≤ digit }
     ensures { result ≡ with_digit number digit }
 {
-    let n = number * 10 + (digit as u64 - 48);
-    if n <= 10000000000 { n } else { 10000000000 }
+    (number * 10 + (digit as u64 - 48)).min(10000000000)
 }
 
 // The digits from here on and before `end`, written after those of a number.
@@ -91,19 +83,17 @@ fn digits_before(text: &[u8], at: usize, end: usize, number: u64) -> Digits
     ensures { DigitsAt (take end text.now) at number result }
 {
     let mut n = number;
-    let mut i = at;
-    while i < end {
+    for i in at..end {
         let b = text[i];
-        if b < b'0' {
-            return Digits { number: n, next: i };
-        }
-        if b'9' < b {
+        if !is_digit(b) {
             return Digits { number: n, next: i };
         }
         n = with_digit(n, b);
-        i += 1;
     }
-    Digits { number: n, next: i }
+    Digits {
+        number: n,
+        next: end,
+    }
 }
 
 // The digits from here on, written after those of a number.
@@ -124,7 +114,8 @@ fn has_point(text: &[u8], at: usize) -> bool
     text[at] == b'.'
 }
 
-pub(crate) fn number_at(text: &[u8], at: usize) -> Valued
+// What a number came to and the place past it, or the place where its form is wrong.
+pub(crate) fn number_at(text: &[u8], at: usize) -> Result<(Worked, usize), usize>
     requires { at ≤ length text.now }
     ensures { result ≡ valued (map_p number_of (number_p text.now at)) }
 {
@@ -134,22 +125,22 @@ pub(crate) fn number_at(text: &[u8], at: usize) -> Valued
         let decimals = whole.next + 1;
         let all = digits_from(text, decimals, whole.number);
         if all.next == sign.next + 1 {
-            return Valued::Wrong(all.next);
+            return Err(all.next);
         }
         if 4 < all.next - decimals {
             // The first five tell the value. So many are seldom, so their number alone is read anew,
             // and nothing is kept for it.
             let again = digits_from(text, sign.next, 0);
             let five = digits_before(text, decimals, decimals + 5, again.number);
-            return Valued::To(value::number(sign.negative, five.number, 5), all.next);
+            return Ok((value::number(sign.negative, five.number, 5), all.next));
         }
-        return Valued::To(
+        return Ok((
             value::number(sign.negative, all.number, all.next - decimals),
             all.next,
-        );
+        ));
     }
     if whole.next == sign.next {
-        return Valued::Wrong(whole.next);
+        return Err(whole.next);
     }
-    Valued::To(value::number(sign.negative, whole.number, 0), whole.next)
+    Ok((value::number(sign.negative, whole.number, 0), whole.next))
 }

@@ -7,57 +7,40 @@ ghost use Rattle.reader.specs.Pass.{settled, pushed};
 use grammar::Op;
 use rules::Worked;
 
-#[derive(Clone, Copy)]
-pub(crate) enum Pending {
-    Clear,
-    Waits(Op, Worked),
-}
-
+// The operator that waits with its left side, where one does, and the term in hand.
 #[derive(Clone, Copy)]
 pub(crate) struct State {
-    pub(crate) waiting: Pending,
+    pub(crate) waiting: Option<(Op, Worked)>,
     pub(crate) term: Worked,
 }
 
 fn is_high(op: Op) -> bool
     ensures { result ≡ high op }
 {
-    match op {
-        Op::Mul => true,
-        Op::Div => true,
-        Op::Mod => true,
-        Op::Add => false,
-        Op::Sub => false,
-        Op::And => false,
-        Op::Or => false,
-        Op::Xor => false,
-    }
+    matches!(op, Op::Mul | Op::Div | Op::Mod)
 }
 
 // What waits, worked out with its right side.
-pub(crate) fn settled(waiting: Pending, right: Worked) -> Worked
+pub(crate) fn settled(waiting: Option<(Op, Worked)>, right: Worked) -> Worked
     ensures { result ≡ settled waiting right }
 {
     match waiting {
-        Pending::Clear => right,
-        Pending::Waits(op, left) => arithmetic::work(op, left, right),
+        None => right,
+        Some((op, left)) => arithmetic::work(op, left, right),
     }
 }
 
-// The state after an operator and the value on its right.
-pub(crate) fn pushed(state: State, op: Op, right: Worked) -> State
-    ensures { result ≡ pushed state op right }
-{
-    let waiting = state.waiting;
-    let term = state.term;
-    if is_high(op) {
-        return State {
-            waiting: waiting,
-            term: arithmetic::work(op, term, right),
-        };
-    }
-    State {
-        waiting: Pending::Waits(op, settled(waiting, term)),
-        term: right,
+impl State {
+    // Takes in an operator and the value on its right.
+    pub(crate) fn push(&mut self, op: Op, right: Worked)
+        ensures { self.new ≡ pushed self.old op right }
+    {
+        let term = self.term;
+        if is_high(op) {
+            self.term = arithmetic::work(op, term, right);
+            return;
+        }
+        self.waiting = Some((op, settled(self.waiting, term)));
+        self.term = right;
     }
 }

@@ -1,3 +1,3 @@
-pub mod Ranges
+pub mod Reach
 pub mod InOrder
 pub mod Soles

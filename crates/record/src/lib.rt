@@ -31,91 +31,30 @@ pub fn fresh() -> Record
 pub fn in_order(r: Record) -> bool
     ensures { result ≡ in_order r }
 {
-    let position = r.position;
-    let origins = r.origins;
-    let offset = r.offset;
-    if !places_in_reach(position, origins, offset) {
-        return false;
-    }
-    if !quantities_in_range(r.feed, r.speed, r.tool, r.spindle, r.coolant) {
-        return false;
-    }
-    codes::modes_served(r.motion, r.plane, r.distance, r.units, r.system)
+    places_in_reach(&r)
+        && quantities_in_range(&r)
+        && codes::modes_served(r.motion, r.plane, r.distance, r.units, r.system)
 }
 
-// Whether a place is in reach on every axis.
-pub fn in_reach(place: [Length; 3]) -> bool
-    ensures { result ≡ in_reach place }
+// Whether lengths are all in reach: those of a place, of a centre, or of several places.
+pub fn in_reach(places: &[Length]) -> bool
+    ensures { result ≡ in_reach places.now }
 {
-    let mut axis = 0;
-    while axis < 3 {
-        if !lengths::in_reach(place[axis]) {
-            return false;
-        }
-        axis += 1;
-    }
-    true
+    places.iter().all(|&l| lengths::in_reach(l))
 }
 
-fn origins_in_reach(origins: [Length; 27]) -> bool
-    ensures { result ≡ in_reach origins }
+fn places_in_reach(r: &Record) -> bool
+    ensures { result ≡ (in_reach r.now.position && in_reach r.now.origins && in_reach r.now.offset) }
 {
-    let mut i = 0;
-    while i < 27 {
-        if !lengths::in_reach(origins[i]) {
-            return false;
-        }
-        i += 1;
-    }
-    true
+    in_reach(&r.position) && in_reach(&r.origins) && in_reach(&r.offset)
 }
 
-fn places_in_reach(position: [Length; 3], origins: [Length; 27], offset: [Length; 3]) -> bool
-    ensures { result ≡ (in_reach position && in_reach origins && in_reach offset) }
+fn quantities_in_range(r: &Record) -> bool
+    ensures { result ≡ (up_to 253999999746 r.now.feed.0 && up_to 999999999 r.now.speed.0 && leb r.now.tool 99 && leb r.now.spindle 2 && leb r.now.coolant 3) }
 {
-    if !in_reach(position) {
-        return false;
-    }
-    if !origins_in_reach(origins) {
-        return false;
-    }
-    in_reach(offset)
-}
-
-fn quantities_in_range(feed: Length, speed: Value, tool: u8, spindle: u8, coolant: u8) -> bool
-    ensures { result ≡ (up_to 253999999746 feed.0 && up_to 999999999 speed.0 && leb tool 99 && leb spindle 2 && leb coolant 3) }
-{
-    if !feed_in_range(feed) {
-        return false;
-    }
-    if !speed_in_range(speed) {
-        return false;
-    }
-    if 99 < tool {
-        return false;
-    }
-    if 2 < spindle {
-        return false;
-    }
-    coolant <= 3
-}
-
-fn feed_in_range(feed: Length) -> bool
-    ensures { result ≡ up_to 253999999746 feed.0 }
-{
-    let counts = feed.0;
-    if counts < 0 {
-        return false;
-    }
-    counts <= 253_999_999_746
-}
-
-fn speed_in_range(speed: Value) -> bool
-    ensures { result ≡ up_to 999999999 speed.0 }
-{
-    let turns = speed.0;
-    if turns < 0 {
-        return false;
-    }
-    turns <= 999_999_999
+    (0..=253_999_999_746).contains(&r.feed.0)
+        && (0..=999_999_999).contains(&r.speed.0)
+        && r.tool <= 99
+        && r.spindle <= 2
+        && r.coolant <= 3
 }

@@ -12,24 +12,21 @@ use lib.ListN.{length}
 use lib.IntN.{ℤ, pos}
 use borrow.Author.Tests.{le-ltb, eqb-false}
 use Rattle.laws.proofs.Bools.{and_left, and_right, T-eq}
+use Rattle.std.specs.Prelude.{Option, Some, None, Ok, Err}
 use Rattle.grammar.specs.Bytes.{byte, bytes, among}
 use Rattle.grammar.specs.Grammar.{Value, Item, word, setting, comment, Mark, unmarked, plain, conditional, Label, Line, line}
 use Rattle.grammar.specs.Derivation.{Derives, derived}
 use Rattle.grammar.specs.Rearranged.{words_of, settings_of, Shuffled, none, place, Rearranged, Reordered, rearranged}
 use Rattle.grammar.specs.Work.{item_work, items_work, mark_work, item_depth, items_depth, mark_depth}
 use Rattle.grammar.specs.Working.{Step, skip, give, stop, Took, end, stopped, took, after, value, expression, step_of, entries, mark_step, line_entries, Contents, contents}
-use Rattle.rules.specs.Meaning.{Entry, word_is, setting_is, arithmetic, word_of, setting_at, setting_of, runs, condition_of, parameter_of, stopped_by, meets, Said, words, settings}
+use Rattle.rules.specs.Meaning.{Worked, Entry, word_is, setting_is, arithmetic, word_of, setting_at, setting_of, runs, condition_of, parameter_of, stopped_by, meets, Said, words, settings}
 use Rattle.rules.specs.Codes.{g_group, m_group, g_code, m_code, group_of}
 use Rattle.rules.specs.Block.{block_of, codes, g_codes, m_codes, other_letters, twice, sets_origin, sets_offset}
 use Rattle.rules.specs.Refusals.{Case, ◌when◌, first, g_groups_of, m_groups_of, unserved, doubled, moving_code}
 use Rattle.rules.specs.Promise.{After, Right, answer_to, numbers, number_of, unread}
 use Rattle.rules.specs.declared.Block.{Block}
 use Rattle.rules.specs.declared.Record.{Record}
-use Rattle.rules.specs.declared.Code.{Code}
-use Rattle.rules.specs.declared.Worked.{Worked}
-use Rattle.rules.specs.declared.Worked.TheVariants.{Good, Bad}
-use Rattle.rules.specs.declared.Parameter.{Parameter}
-use Rattle.rules.specs.declared.Parameter.TheVariants.{Number as Numbered, Outside}
+use Rattle.rules.proofs.Answers.{first_carriable}
 use Rattle.rules.proofs.Demands.{number_is}
 use Rattle.rules.proofs.Marks.{unread_is}
 use Rattle.rules.proofs.Order.{Apart, block_swap}
@@ -153,7 +150,7 @@ letters_step w ws = go (among w.letter (bytes "GM"))
     go true = refl
     go false = refl
 
-groups_step : (b : ℕ) (group : ℕ → ℕ) (code : ℤ → Code) (w : Said) (ws : List Said) →
+groups_step : (b : ℕ) (group : ℕ → ℕ) (code : ℤ → Option ℕ) (w : Said) (ws : List Said) →
     map (group_of group) (codes b code (w ∷ ws)) ≡ cond (eqb w.letter b) (group_of group (code w.value) ∷ map (group_of group) (codes b code ws)) (map (group_of group) (codes b code ws))
 groups_step b group code w ws = go (eqb w.letter b)
   where
@@ -174,7 +171,7 @@ module _ (xs : List Said) (v w : Said) (ws : List Said) where
   letters_swap : twice (other_letters (xs ++ v ∷ w ∷ ws)) ≡ twice (other_letters (xs ++ w ∷ v ∷ ws))
   letters_swap = twice_swap other (λ u. u.letter) other_letters letters_step xs v w ws
 
-  module _ (b : ℕ) (group : ℕ → ℕ) (code : ℤ → Code) where
+  module _ (b : ℕ) (group : ℕ → ℕ) (code : ℤ → Option ℕ) where
     abbrev groups : List Said → List ℕ
     groups l = map (group_of group) (codes b code l)
 
@@ -256,27 +253,27 @@ both false b h = absurd (subst T (sym h) tt)
 
 -- a word or a setting that does not stop the reading
 worth : Worked → ℤ
-worth (Good v) = v.0
-worth (Bad n) = pos 0
+worth (Ok v) = v.0
+worth (Err n) = pos 0
 
 module _ (b : ℕ) where
   word_words : (w : Worked) (t : Took Entry) → goes (word_of b w) ≡ true → words (after (word_of b w) t) ≡ record { letter = b; value = worth w } ∷ words t
   unfolding worth
-  word_words (Good v) t h = refl
-  word_words (Bad n) t h = absurd (subst T (sym h) tt)
+  word_words (Ok v) t h = refl
+  word_words (Err n) t h = absurd (subst T (sym h) tt)
 
   word_settings : (w : Worked) (t : Took Entry) → goes (word_of b w) ≡ true → settings (after (word_of b w) t) ≡ settings t
-  word_settings (Good v) t h = refl
-  word_settings (Bad n) t h = absurd (subst T (sym h) tt)
+  word_settings (Ok v) t h = refl
+  word_settings (Err n) t h = absurd (subst T (sym h) tt)
 
 setting_words : (a w : Worked) (t : Took Entry) → goes (setting_of a w) ≡ true → words (after (setting_of a w) t) ≡ words t
-setting_words (Bad n) w t h = absurd (subst T (sym h) tt)
-setting_words (Good v) w t h = go (parameter_of v.0) w h
+setting_words (Err n) w t h = absurd (subst T (sym h) tt)
+setting_words (Ok v) w t h = go (parameter_of v.0) w h
   where
-    go : (p : Parameter) (w : Worked) → goes (setting_at p w) ≡ true → words (after (setting_at p w) t) ≡ words t
-    go Outside w h = absurd (subst T (sym h) tt)
-    go (Numbered n) (Good z) h = refl
-    go (Numbered n) (Bad k) h = absurd (subst T (sym h) tt)
+    go : (p : Option ℕ) (w : Worked) → goes (setting_at p w) ≡ true → words (after (setting_at p w) t) ≡ words t
+    go None w h = absurd (subst T (sym h) tt)
+    go (Some n) (Ok z) h = refl
+    go (Some n) (Err k) h = absurd (subst T (sym h) tt)
 
 -- settings that come after the same step
 step_settings : (s : Step Entry) (t u : Took Entry) → settings t ≡ settings u → settings (after s t) ≡ settings (after s u)
@@ -342,8 +339,8 @@ module _ (table : List ℤ) where
   mark_reads (conditional k e) t h = go (expression (arithmetic table) e) h
     where
       go : (w : Worked) → goes (condition_of k w) ≡ true → after (condition_of k w) t ≡ t
-      go (Bad n) h = absurd (subst T (sym h) tt)
-      go (Good v) h = by (runs k v.0) h
+      go (Err n) h = absurd (subst T (sym h) tt)
+      go (Ok v) h = by (runs k v.0) h
         where
           by : (c : Bool) → goes (cond c skip (stop 100)) ≡ true → after (cond c skip (stop 100)) t ≡ t
           by true h = refl
@@ -469,7 +466,7 @@ module _ (switch : Bool) (r : Record) (table out : List ℤ) where
       let c = contents (arithmetic table) t in
       let b = block_of (words c.entries) in
       let cs = numbers false c b s switch r table (length out) in
-      let f = nones cs tt (sym (number_is (first cs) 0 c b r table out) ∙ (sym (ap (λ x. number_of x.outcome.answer) (p.by_tree t d)) ∙ zero)) in
+      let f = nones cs tt (sym (number_is (first cs) 0 c b r table out (first_carriable cs tt)) ∙ (sym (ap (λ x. number_of x.outcome.answer) (p.by_tree t d)) ∙ zero)) in
       let g = f.1.1.1.1.1 in
       let on = line_ends table t g.0 g.1.1.0 g.1.1.1.0 g.1.1.1.1.0 in
       let w = same_words table m n is js o e on in

@@ -13,6 +13,7 @@ use lib.IntN.{ℤ}
 use Rattle.grammar.specs.Grammar.{Line}
 use Rattle.grammar.specs.Derivation.{Derives, Place, Form, derived, breaks_at}
 use Rattle.grammar.specs.Working.{Contents}
+use Rattle.rules.specs.Named.{refusal_of}
 use Rattle.rules.specs.Meaning.{Entry, reading, words, settings}
 use Rattle.rules.specs.Block.{block_of}
 use Rattle.rules.specs.Steps.{ready, left}
@@ -23,7 +24,7 @@ use Rattle.rules.specs.declared.Block.{Block}
 use Rattle.rules.specs.declared.Record.{Record}
 use Rattle.rules.specs.declared.Answer.{Answer}
 use Rattle.rules.specs.declared.Answer.TheVariants.{Accepted, Refused, Skipped}
-use Rattle.rules.proofs.Answers.{plain, number_of_holds, count_of_holds, plain_of, answer_of_holds}
+use Rattle.rules.proofs.Answers.{carriable, number_of_holds, count_of_holds, answer_of_holds, first_carriable}
 use Rattle.rules.proofs.Told.{cases}
 
 -- ---- what is left for a number
@@ -31,7 +32,6 @@ module _ (n place : ℕ) (e : Contents Entry) (b : Block) (r : Record) (table ou
   pub record Carries (a : After) : Type 0 where
     pub number : number_of a.outcome.answer ≡ n
     pub count : count_of a.outcome.answer ≡ cond (eqb n 0) (length (commands b (ready b r))) 0
-    pub plainly : T (plain a.outcome.answer)
     pub new_record : a.outcome.rec ≡ cond (eqb n 0) (left b r) r
     pub work_done : a.work ≡ cond (eqb n 0) e.work 0
     pub place_told : a.place ≡ cond (eqb n 3) place 0
@@ -42,7 +42,7 @@ module _ (n place : ℕ) (e : Contents Entry) (b : Block) (r : Record) (table ou
   k = length (commands b (ready b r))
 
   abbrev other : Answer
-  other = cond (eqb n 100) Skipped (Refused n)
+  other = cond (eqb n 100) Skipped (Refused (refusal_of n))
 
   -- by its parts, where zero? is whether the number is 0, and three? whether it is 3
   abbrev parts : Bool → Bool → After
@@ -66,11 +66,11 @@ module _ (n place : ℕ) (e : Contents Entry) (b : Block) (r : Record) (table ou
       go false true p q = rw (is 3 q)
       go false false p q = refl
 
-  carries : {a : After} → a ≡ by_number n place e b r table out → Carries a
-  carries h = subst Carries (sym (h ∙ by_parts)) (record { number = number_of_holds n k; count = count_of_holds n k; plainly = plain_of n k; new_record = refl; work_done = refl; place_told = refl; new_table = refl; new_out = refl })
+  carries : T (carriable n) → {a : After} → a ≡ by_number n place e b r table out → Carries a
+  carries t h = subst Carries (sym (h ∙ by_parts)) (record { number = number_of_holds n k t; count = count_of_holds n k; new_record = refl; work_done = refl; place_told = refl; new_table = refl; new_out = refl })
 
   carried_answer : {a : After} → Carries a → a.outcome.answer ≡ answer_of n k
-  carried_answer {a} c = answer_of_holds a.outcome.answer c.plainly ∙ rw (c.number, c.count) (go (eqb n 0))
+  carried_answer {a} c = answer_of_holds a.outcome.answer ∙ rw (c.number, c.count) (go (eqb n 0))
     where
       go : (x : Bool) → cond x (Accepted (cond x k 0)) other ≡ cond x (Accepted k) other
       go true = refl
@@ -95,7 +95,10 @@ module _ (line : List ℕ) (switch : Bool) (r : Record) (table out : List ℤ) w
 
   pub carried : {a : After} → Right line switch r table out a → CarriesBy a
   unfolding answer_to
-  carried p = (λ t d. carries _ _ _ _ _ _ _ (p.by_tree t d), λ h n w. carries _ _ _ _ _ _ _ (p.by_place h n w))
+  carried p = (
+    λ t d. carries _ _ _ _ _ _ _ (first_carriable (cases line switch r table out (derived t)) tt) (p.by_tree t d),
+    λ h n w. carries _ _ _ _ _ _ _ (first_carriable (cases line switch r table out (breaks_at n)) tt) (p.by_place h n w),
+  )
 
   pub uncarried : {a : After} → CarriesBy a → Right line switch r table out a
   unfolding answer_to

@@ -33,7 +33,7 @@ use Rattle.rules.specs.Refusals.{Case, ◌when◌, first, refusals}
 use Rattle.rules.specs.Promise.{After, Right, answer, answer_to, leaving, misformed, accepted, by_number, numbers, underived, place_in, taken, answer_of, number_of, count_of, disorder, unread, too_deep}
 use Rattle.rules.specs.declared.Block.{Block}
 use Rattle.rules.specs.declared.Record.{Record}
-use Rattle.rules.proofs.Answers.{number_of_holds, count_of_holds}
+use Rattle.rules.proofs.Answers.{carriable, number_of_holds, count_of_holds, first_carriable}
 
 -- nothing is changed: "returns count 0 and leaves record, table and output unchanged"; "others report 0"
 pub record Unchanged (r : Record) (table out : List ℤ) (a : After) : Type 0 where
@@ -58,19 +58,19 @@ module _ (n place : ℕ) (e : Contents Entry) (b : Block) (r : Record) (table ou
       go false false p q = rw p
 
   -- carries that number
-  pub number_is : number_of (by_number n place e b r table out).outcome.answer ≡ n
-  number_is = ap number_of answer_by ∙ number_of_holds n (length (commands b (ready b r)))
+  pub number_is : T (carriable n) → number_of (by_number n place e b r table out).outcome.answer ≡ n
+  number_is t = ap number_of answer_by ∙ number_of_holds n (length (commands b (ready b r))) t
 
   -- 3 carries the place
-  pub three : number_of (by_number n place e b r table out).outcome.answer ≡ 3 → by_number n place e b r table out ≡ misformed place r table out
-  three h = rw (sym number_is ∙ h)
+  pub three : T (carriable n) → number_of (by_number n place e b r table out).outcome.answer ≡ 3 → by_number n place e b r table out ≡ misformed place r table out
+  three t h = rw (sym (number_is t) ∙ h)
 
   -- and is all as it was, unless the number is 0
-  kept : (number_of (by_number n place e b r table out).outcome.answer ≡ 0 → ⊥) → Unchanged r table out (by_number n place e b r table out)
-  kept h = go (eqb n 0) (eqb n 3) refl
+  kept : T (carriable n) → (number_of (by_number n place e b r table out).outcome.answer ≡ 0 → ⊥) → Unchanged r table out (by_number n place e b r table out)
+  kept t h = go (eqb n 0) (eqb n 3) refl
     where
       go : (x z : Bool) → eqb n 0 ≡ x → Unchanged r table out (by x z)
-      go true z p = absurd (h (number_is ∙ eqb→eq n 0 (subst T (sym p) tt)))
+      go true z p = absurd (h (number_is t ∙ eqb→eq n 0 (subst T (sym p) tt)))
       go false true p = record { no_command = refl; no_work = refl; same_record = refl; same_table = refl; same_out = refl }
       go false false p = record { no_command = count_of_holds n 0 ∙ rw p; no_work = refl; same_record = refl; same_table = refl; same_out = refl }
 
@@ -84,12 +84,12 @@ module _ (n place : ℕ) (e : Contents Entry) (b : Block) (r : Record) (table ou
       go false false = omega arith
 
   -- only 3 has a place
-  placeless : (number_of (by_number n place e b r table out).outcome.answer ≡ 3 → ⊥) → (by_number n place e b r table out).place ≡ 0
-  placeless h = go (eqb n 0) (eqb n 3) refl
+  placeless : T (carriable n) → (number_of (by_number n place e b r table out).outcome.answer ≡ 3 → ⊥) → (by_number n place e b r table out).place ≡ 0
+  placeless t h = go (eqb n 0) (eqb n 3) refl
     where
       go : (x z : Bool) → eqb n 3 ≡ z → (by x z).place ≡ 0
       go true z q = refl
-      go false true q = absurd (h (number_is ∙ eqb→eq n 3 (subst T (sym q) tt)))
+      go false true q = absurd (h (number_is t ∙ eqb→eq n 3 (subst T (sym q) tt)))
       go false false q = refl
 
 -- ---- a number that no case of a list carries is not its first
@@ -126,13 +126,15 @@ module _ (line : List ℕ) (switch : Bool) (r : Record) (table out : List ℤ) w
   unfolding answer_to
   kept_to c h =
       let b = block_of (words (taken c).entries) in
-      kept (first (numbers (underived c) (taken c) b line switch r table (length out))) (place_in c) (taken c) b r table out h
+      let cs = numbers (underived c) (taken c) b line switch r table (length out) in
+      kept (first cs) (place_in c) (taken c) b r table out (first_carriable cs tt) h
 
   placeless_to : (c : Form (Contents Entry)) → (number_of (left_to c).outcome.answer ≡ 3 → ⊥) → (left_to c).place ≡ 0
   unfolding answer_to
   placeless_to c h =
       let b = block_of (words (taken c).entries) in
-      placeless (first (numbers (underived c) (taken c) b line switch r table (length out))) (place_in c) (taken c) b r table out h
+      let cs = numbers (underived c) (taken c) b line switch r table (length out) in
+      placeless (first cs) (place_in c) (taken c) b r table out (first_carriable cs tt) h
 
   -- a refused or skipped line changes nothing
   pub unchanged : {a : After} → Right line switch r table out a → (number_of a.outcome.answer ≡ 0 → ⊥) → Unchanged r table out a
@@ -185,7 +187,7 @@ module _ (line : List ℕ) (switch : Bool) (r : Record) (table out : List ℤ) w
     answer_not_3 e h =
         let b = block_of (words e.entries) in
         let cs = numbers false e b line switch r table (length out) in
-        let n : first cs ≡ 3 = sym (number_is (first cs) 0 e b r table out) ∙ h in
+        let n : first cs ≡ 3 = sym (number_is (first cs) 0 e b r table out (first_carriable cs tt)) ∙ h in
         let k : first (later e b (ready b r) (length out)) ≡ 3 = rw (ordered, le-ltb 256 (length line) short, read) at n in
         lacking 3 (later e b (ready b r) (length out)) tt k
 

@@ -11,6 +11,8 @@ use lib.ListN.{length, set, replicate, length-set}
 use lib.Seq.{get_or-set_other}
 use lib.IntN.{ℤ, pos, negsuc}
 use borrow.Author.Tests.{eqb-false}
+use Rattle.std.specs.Prelude.{Option, None, Some, IfSome, unwrap_or, is_some}
+use Rattle.std.specs.Option.{option_map_or}
 use Rattle.laws.proofs.Bools.{and_left, and_right, neither_left, neither_right, or_cases, T-eq}
 use Rattle.grammar.specs.Bytes.{byte, among}
 use Rattle.grammar.specs.Grammar.{Line}
@@ -20,7 +22,7 @@ use Rattle.grammar.proofs.ByForm.{form_of}
 use Rattle.rules.specs.Numbers.{within, in_range, whole, between, counted}
 use Rattle.rules.specs.Meaning.{Entry, reading, Said, Setting, words, settings}
 use Rattle.rules.specs.Codes.{g_group, group_of}
-use Rattle.rules.specs.Block.{of_group, g_codes, block_of, all_axes, dwells, moves, sets_origin, sets_offset, zeroes_offset}
+use Rattle.rules.specs.Block.{amount, of_group, g_codes, block_of, all_axes, dwells, moves, sets_origin, sets_offset, zeroes_offset}
 use Rattle.rules.specs.Reach.{converted, in_reach, up_to, in_order, at, nowhere, fresh}
 use Rattle.rules.specs.Steps.{feed_step, speed_step, tool_step, change_step, spindle_step, coolant_step, plane_step, units_step, system_step, distance_step, origin_step, offset_step, target, motion_step, stop_step, in_turn, ready, left}
 use Rattle.rules.specs.Steps.{origin_place, origin_system, origin_of, origins_set, named, no_offset, ends, spindle_of, coolant_with}
@@ -29,12 +31,9 @@ use Rattle.rules.specs.Refusals.{Case, ◌when◌, first, below0, outside, wrong
 use Rattle.rules.specs.Promise.{After, Right, answer_to, numbers, by_number, underived, taken, place_in, apply, number_of, disorder}
 use Rattle.rules.specs.declared.Length.{Length}
 use Rattle.rules.specs.declared.Value.{Value}
-use Rattle.rules.specs.declared.Word.{Word}
-use Rattle.rules.specs.declared.Code.{Code}
 use Rattle.rules.specs.declared.Block.{Block}
 use Rattle.rules.specs.declared.Record.{Record}
-use Rattle.rules.specs.declared.Near.{Near}
-use Rattle.rules.specs.declared.Near.TheVariants.{To, Nothing}
+use Rattle.rules.proofs.Answers.{first_carriable}
 use Rattle.rules.proofs.Demands.{unchanged, by_model, number_is}
 use Rattle.rules.proofs.Told.{condition}
 use Rattle.rules.proofs.InRange.{AllInRange, words_in_range, word_in_range}
@@ -174,12 +173,12 @@ module _ (b : Block) (r : Record) where
       go k false e = rw (elsewhere is os k e) (reach_at os k t)
 
 -- ---- words
-not_below : (w : Word) → T (not (below0 w)) → T (in_range w.value.0) → w.given ≡ true → (n : ℕ) × (w.value.0 ≡ pos n) × (n ≤ 999999999)
-not_below w t h g = go w.value.0 refl
+not_below : (v : Value) → T (not (below0 (Some v))) → T (in_range v.0) → (n : ℕ) × (v.0 ≡ pos n) × (n ≤ 999999999)
+not_below v t h = go v.0 refl
   where
-    go : (z : ℤ) → w.value.0 ≡ z → (n : ℕ) × (w.value.0 ≡ pos n) × (n ≤ 999999999)
+    go : (z : ℤ) → v.0 ≡ z → (n : ℕ) × (v.0 ≡ pos n) × (n ≤ 999999999)
     go (pos n) e = (n, e, leb→le n 999999999 (rw e at h))
-    go (negsuc n) e = absurd (rw (g, e) at t)
+    go (negsuc n) e = absurd (rw e at t)
 
 -- "one ten-thousandth is 10 counts under G21, 254 under G20", so the largest feed is 253,999,999,746
 feed_reach : (units : ℕ) (v : Value) (n : ℕ) → v.0 ≡ pos n → n ≤ 999999999 → T (up_to 253999999746 (converted units v).0)
@@ -190,36 +189,51 @@ feed_reach units v n e h = rw e (go (eqb units 200))
     go true = le→leb (n * 254) 253999999746 (omega arith)
     go false = le→leb (n * 10) 253999999746 (omega arith)
 
-counted_up_to : (low high : ℕ) (n : Near) → T (between low high n) → T (leb (counted n) high)
-counted_up_to low high Nothing t = absurd t
-counted_up_to low high (To (negsuc k)) t = absurd t
-counted_up_to low high (To (pos k)) t = and_right (leb low k) (leb k high) t
+abbrev UpTo : ℕ → ℕ → Type 0
+UpTo high n = T (leb n high)
+
+counted_up_to : (low high : ℕ) (n : Option ℤ) → T (between low high n) → T (leb (counted n) high)
+counted_up_to low high None t = absurd t
+counted_up_to low high (Some (negsuc k)) t = absurd t
+counted_up_to low high (Some (pos k)) t = and_right (leb low k) (leb k high) t
 
 -- ---- codes
-of_group_holds : (group : ℕ → ℕ) (g : ℕ) (cs : List Code) → (of_group group g cs).given ≡ true → T (eqb (group (of_group group g cs).code) g)
-of_group_holds group g [] e = absurd (subst T (sym e) tt)
-of_group_holds group g (c ∷ cs) e = go (eqb (group_of group c) g) refl e (λ f. of_group_holds group g cs f)
+
+abbrev Served : ℕ → ℕ → Type 0
+Served g code = T (eqb (g_group code) g)
+
+of_group_holds : (group : ℕ → ℕ) (g : ℕ) (cs : List (Option ℕ)) → IfSome (of_group group g cs) (λ c. T (eqb (group c) g))
+of_group_holds group g [] = tt
+of_group_holds group g (c ∷ cs) = go c (eqb (group_of group c) g) refl (of_group_holds group g cs)
   where
-    go : (x : Bool) → eqb (group_of group c) g ≡ x → (cond x c (of_group group g cs)).given ≡ true → ((of_group group g cs).given ≡ true → T (eqb (group (of_group group g cs).code) g)) →
-        T (eqb (group (cond x c (of_group group g cs)).code) g)
-    go true p e f = let t : T (eqb (group_of group c) g) = subst T (sym p) tt in rw e at t
-    go false p e f = f e
+    go : (c : Option ℕ) (x : Bool) → eqb (group_of group c) g ≡ x → IfSome (of_group group g cs) (λ c. T (eqb (group c) g)) → IfSome (cond x c (of_group group g cs)) (λ c. T (eqb (group c) g))
+    go None true p q = tt
+    go (Some n) true p q = subst T (sym p) tt
+    go c false p q = q
 
 either : {A : Type 0} (P : A → Type 0) (c : Bool) (x y : A) → (c ≡ true → P x) → P y → P (cond c x y)
 either P true x y f g = f refl
 either P false x y f g = g
 
+map_or : {A B : Type 0} (P : B → Type 0) (f : A → B) (w : Option A) (y : B) → IfSome w (λ x. P (f x)) → P y → P (option_map_or f w y)
+map_or P f None y p q = q
+map_or P f (Some x) y p q = p
+
+or_old : {A : Type 0} (P : A → Type 0) (w : Option A) (y : A) → IfSome w P → P y → P (unwrap_or w y)
+or_old P None y p q = q
+or_old P (Some x) y p q = p
+
 -- ---- a line whose numbers 11 and 13 are not given
 
 -- what is known of a summary: F and S in range, each code in its group
 record Summary (b : Block) : Type 0 where
-  f : T (in_range b.f.value.0)
-  s : T (in_range b.s.value.0)
-  motion : b.motion.given ≡ true → T (eqb (g_group b.motion.code) 1)
-  plane : b.plane.given ≡ true → T (eqb (g_group b.plane.code) 2)
-  distance : b.distance.given ≡ true → T (eqb (g_group b.distance.code) 3)
-  units : b.units.given ≡ true → T (eqb (g_group b.units.code) 6)
-  system : b.system.given ≡ true → T (eqb (g_group b.system.code) 12)
+  f : T (in_range (amount b.f).0)
+  s : T (in_range (amount b.s).0)
+  motion : IfSome b.motion (Served 1)
+  plane : IfSome b.plane (Served 2)
+  distance : IfSome b.distance (Served 3)
+  units : IfSome b.units (Served 6)
+  system : IfSome b.system (Served 12)
 
 summary : (ws : List Said) → AllInRange ws → Summary (block_of ws)
 unfolding block_of
@@ -284,9 +298,6 @@ judged_or_not : (c : Bool) (x y : List Length) → (c ≡ true → T (in_reach (
 judged_or_not true x y h t = h refl
 judged_or_not false x y h t = t
 
-abbrev UpTo : ℕ → ℕ → Type 0
-UpTo high n = T (leb n high)
-
 spindle_of_holds : (m : ℕ) → T (leb (spindle_of m) 2)
 spindle_of_holds m = either (UpTo 2) (eqb m 3) 1 _ (λ e. tt) (either (UpTo 2) (eqb m 4) 2 0 (λ e. tt) tt)
 
@@ -295,8 +306,25 @@ coolant_with_holds m old =
     either (UpTo 3) (eqb m 7) _ _ (λ e. either (UpTo 3) (eqb old 2 || eqb old 3) 3 1 (λ e. tt) tt)
     (either (UpTo 3) (eqb m 8) _ 0 (λ e. either (UpTo 3) (eqb old 1 || eqb old 3) 3 2 (λ e. tt) tt) tt)
 
-abbrev Served : ℕ → ℕ → Type 0
-Served g code = T (eqb (g_group code) g)
+feed_holds : (units : ℕ) (w : Option Value) → T (not (below0 w)) → T (in_range (amount w).0) → IfSome w (λ v. T (up_to 253999999746 (converted units v).0))
+feed_holds units None t h = tt
+feed_holds units (Some v) t h = let n = not_below v t h in feed_reach units v n.0 n.1 n.2
+
+speed_holds : (w : Option Value) → T (not (below0 w)) → T (in_range (amount w).0) → IfSome w (λ v. T (up_to 999999999 v.0))
+speed_holds None t h = tt
+speed_holds (Some v) t h = let n = not_below v t h in rw n.1 (le→leb n.0 999999999 n.2)
+
+tool_holds : (w : Option Value) → T (not (outside 0 99 w)) → IfSome w (λ v. UpTo 99 (counted (whole v.0)))
+tool_holds None t = tt
+tool_holds (Some v) t = counted_up_to 0 99 (whole v.0) (T_not_not (between 0 99 (whole v.0)) t)
+  where
+    T_not_not : (b : Bool) → T (not (not b)) → T b
+    T_not_not true t = tt
+    T_not_not false t = t
+
+each_holds : {A : Type 0} (P : A → Type 0) (w : Option A) → ((x : A) → P x) → IfSome w P
+each_holds P None f = tt
+each_holds P (Some x) f = f x
 
 -- the record as G10 finds it
 abbrev before10 : Block → Record → Record
@@ -311,22 +339,19 @@ module _ (b : Block) (r : Record) (k : Summary b) (o : Ordered r) (words : Words
     origins = set_or_not b (before10 b r) (sets_origin b) r.origins o.origins near.origin;
     offset = either (λ p. T (in_reach p)) (ends b) no_offset (ready b r).offset (λ e. tt)
         (judged_or_not (sets_offset b) _ _ near.offset (either (λ p. T (in_reach p)) (zeroes_offset b) no_offset r.offset (λ e. tt) o.offset));
-    feed = either (λ (l : Length). T (up_to 253999999746 l.0)) b.f.given (converted r.units b.f.value) r.feed
-        (λ e. let n = not_below b.f words.f k.f e in feed_reach r.units b.f.value n.0 n.1 n.2) o.feed;
-    speed = either (λ (v : Value). T (up_to 999999999 v.0)) b.s.given b.s.value r.speed
-        (λ e. let n = not_below b.s words.s k.s e in rw n.1 (le→leb n.0 999999999 n.2)) o.speed;
-    tool = either (UpTo 99) b.t.given (counted (whole b.t.value.0)) r.tool
-        (λ e. counted_up_to 0 99 (whole b.t.value.0) (other_part b.t.given (between 0 99 (whole b.t.value.0)) words.t e)) o.tool;
+    feed = map_or (λ (l : Length). T (up_to 253999999746 l.0)) (converted r.units) b.f r.feed (feed_holds r.units b.f words.f k.f) o.feed;
+    speed = or_old (λ (v : Value). T (up_to 999999999 v.0)) b.s r.speed (speed_holds b.s words.s k.s) o.speed;
+    tool = map_or (UpTo 99) (λ (v : Value). counted (whole v.0)) b.t r.tool (tool_holds b.t words.t) o.tool;
     spindle = either (UpTo 2) (ends b) 0 _ (λ e. tt)
-        (either (UpTo 2) b.spindle.given (spindle_of b.spindle.code) _ (λ e. spindle_of_holds b.spindle.code)
-        (either (UpTo 2) b.change.given 0 r.spindle (λ e. tt) o.spindle));
+        (map_or (UpTo 2) spindle_of b.spindle _ (each_holds (λ m. UpTo 2 (spindle_of m)) b.spindle spindle_of_holds)
+        (either (UpTo 2) (is_some b.change) 0 r.spindle (λ e. tt) o.spindle));
     coolant = either (UpTo 3) (ends b) 0 _ (λ e. tt)
-        (either (UpTo 3) b.coolant.given (coolant_with b.coolant.code r.coolant) r.coolant (λ e. coolant_with_holds b.coolant.code r.coolant) o.coolant);
-    motion = either (Served 1) (ends b) 10 _ (λ e. tt) (either (Served 1) b.motion.given b.motion.code r.motion k.motion o.motion);
-    plane = either (Served 2) (ends b) 170 _ (λ e. tt) (either (Served 2) b.plane.given b.plane.code r.plane k.plane o.plane);
-    distance = either (Served 3) (ends b) 900 _ (λ e. tt) (either (Served 3) b.distance.given b.distance.code r.distance k.distance o.distance);
-    units = either (Served 6) b.units.given b.units.code r.units k.units o.units;
-    system = either (Served 12) (ends b) 540 _ (λ e. tt) (either (Served 12) b.system.given b.system.code r.system k.system o.system);
+        (map_or (UpTo 3) (λ m. coolant_with m r.coolant) b.coolant r.coolant (each_holds (λ m. UpTo 3 (coolant_with m r.coolant)) b.coolant (λ m. coolant_with_holds m r.coolant)) o.coolant);
+    motion = either (Served 1) (ends b) 10 _ (λ e. tt) (or_old (Served 1) b.motion r.motion k.motion o.motion);
+    plane = either (Served 2) (ends b) 170 _ (λ e. tt) (or_old (Served 2) b.plane r.plane k.plane o.plane);
+    distance = either (Served 3) (ends b) 900 _ (λ e. tt) (or_old (Served 3) b.distance r.distance k.distance o.distance);
+    units = or_old (Served 6) b.units r.units k.units o.units;
+    system = either (Served 12) (ends b) 540 _ (λ e. tt) (or_old (Served 12) b.system r.system k.system o.system);
   }
 
 -- ---- record and table after any line
@@ -354,7 +379,7 @@ module _ (line : List ℕ) (switch : Bool) (r : Record) (table out : List ℤ) (
   accepted_in_order e fine h =
       let b = block_of (words (taken e).entries) in
       let cs = numbers (underived e) (taken e) b line switch r table (length out) in
-      let zero_is : first cs ≡ 0 = sym (number_is (first cs) (place_in e) (taken e) b r table out) ∙ h in
+      let zero_is : first cs ≡ 0 = sym (number_is (first cs) (place_in e) (taken e) b r table out (first_carriable cs tt)) ∙ h in
       let was = ordered_before r table before in
       let now = left_ordered b r (summary (words (taken e).entries) fine) (ordered r was.0) (words_right b (none_holds 11 cs tt tt zero_is)) (in_reach_holds b (ready b r) (none_holds 13 cs tt tt zero_is)) in
       subst (λ (n : ℕ). disorder (by_number n (place_in e) (taken e) b r table out).outcome.rec (by_number n (place_in e) (taken e) b r table out).table ≡ false) (sym zero_is)

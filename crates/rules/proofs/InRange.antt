@@ -7,11 +7,12 @@ use mathlib.Core.Logic.{⊎_elim}
 use Prim.Native.Nat.{ℕ}
 use lib.Dec.{T, eqb}
 use lib.IntN.{ℤ}
+use Rattle.std.specs.Prelude.{Some}
 use Rattle.grammar.specs.Grammar.{Line}
 use Rattle.grammar.specs.Working.{Took, end, stopped, took, line_entries}
 use Rattle.rules.specs.Numbers.{in_range}
 use Rattle.rules.specs.Meaning.{Entry, word_is, setting_is, arithmetic, Said, words}
-use Rattle.rules.specs.Block.{word as wordOfLetter}
+use Rattle.rules.specs.Block.{amount, word as wordOfLetter}
 use Rattle.rules.proofs.Sound.{SoundTook, line_sound}
 
 abbrev pub AllInRange : List Said → Type 0
@@ -28,10 +29,10 @@ pub words_in_range : (table : List ℤ) (t : Line) → AllInRange (words (line_e
 words_in_range table t = ⊎_elim (λ e. rw e tt) (took_in_range (line_entries (arithmetic table) t)) (line_sound table t)
 
 -- the word of a letter, given or not
-pub word_in_range : (b : ℕ) (ws : List Said) → AllInRange ws → T (in_range (wordOfLetter b ws).value.0)
+pub word_in_range : (b : ℕ) (ws : List Said) → AllInRange ws → T (in_range (amount (wordOfLetter b ws)).0)
 word_in_range b [] p = tt
 word_in_range b (w ∷ ws) p = go (eqb w.letter b) (word_in_range b ws p.1)
   where
-    go : (c : Bool) → T (in_range (wordOfLetter b ws).value.0) → T (in_range (cond c (record { given = true; value = record { 0 = w.value } }) (wordOfLetter b ws)).value.0)
+    go : (c : Bool) → T (in_range (amount (wordOfLetter b ws)).0) → T (in_range (amount (cond c (Some (record { 0 = w.value })) (wordOfLetter b ws))).0)
     go true q = p.0
     go false q = q

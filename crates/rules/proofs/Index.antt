@@ -11,17 +11,16 @@ use lib.Seq.{set_out}
 use lib.Dec.{T, eqb, leb, eqb→eq, eqb_refl, T_not, leb→le}
 use lib.IntN.{ℤ, pos, negsuc, nat_abs, ◌-ℤ◌, ◌*ℤ◌}
 use borrow.Author.Tests.{le-leb, leb-true}
+use Rattle.std.specs.Prelude.{Option, None, Some, option_map}
+use Rattle.std.proofs.lemmas.Option.{none-some, same_Some}
 use Rattle.laws.proofs.Bools.{and_left, and_right, T-eq}
 use Rattle.grammar.specs.Bytes.{among, all}
 use Rattle.rules.specs.Numbers.{nearest, near, within, between}
-use Rattle.rules.specs.Codes.{Group, ◌holds◌, not_served, listed_in, systems, g_groups, m_groups, g_group, m_group, no_code, code_up_to, g_code, m_code, further, place_in, system_number}
+use Rattle.rules.specs.Codes.{Group, ◌holds◌, not_served, listed_in, systems, g_groups, m_groups, g_group, m_group, code_up_to, g_code, m_code, further, place_in, system_number}
 use Rattle.rules.specs.Block.{twice}
 use Rattle.rules.specs.Reach.{nowhere, at}
 use Rattle.rules.specs.Steps.{origin_place}
 use Rattle.rules.specs.declared.Length.{Length}
-use Rattle.rules.specs.declared.Near.{Near}
-use Rattle.rules.specs.declared.Near.TheVariants.{To, Nothing}
-use Rattle.rules.specs.declared.Code.{Code}
 use Rattle.rules.proofs.Nearest.{Nearest, nearest_is}
 
 -- ---- values and codes, once for any step between codes (1,000 ten-thousandths for G, 10,000 for M)
@@ -38,76 +37,69 @@ pub close_one : (step c d : ℕ) (v : ℤ) → 2 < step → Close step c v → C
 close_one step c d v h p q =
     ap nat_abs (nearest_is v (pos step) (pos c) (omega arith) (close_nearest step c v h p) ∙ sym (nearest_is v (pos step) (pos d) (omega arith) (close_nearest step d v h q)))
 
--- the code that stands in its table, and is given
-abbrev pub code : ℕ → Code
-code c = record { given = true; code = c }
-
 -- a value at most 0.0001 from a code's number is that code
-pub near_is : (step c : ℕ) (v : ℤ) → 2 < step → Close step c v → near step v ≡ To (pos c)
+pub near_is : (step c : ℕ) (v : ℤ) → 2 < step → Close step c v → near step v ≡ Some (pos c)
 unfolding near
 near_is step c v h p = rw (← nearest_is v (pos step) (pos c) (omega arith) (close_nearest step c v h p), le-leb (nat_abs (v -ℤ pos (c * step))) 1 p)
 
 module _ (step last : ℕ) (h : 2 < step) where
-  pub code_is : (c : ℕ) (v : ℤ) → c ≤ last → Close step c v → code_up_to last (near step v) ≡ code c
+  pub code_is : (c : ℕ) (v : ℤ) → c ≤ last → Close step c v → code_up_to last (near step v) ≡ Some c
   code_is c v l p = rw (near_is step c v h p, le-leb 0 c (omega arith), le-leb c last l)
 
   -- and is a code only then
-  pub code_only : (c : ℕ) (v : ℤ) → code_up_to last (near step v) ≡ code c → (c ≤ last) × Close step c v
+  pub code_only : (c : ℕ) (v : ℤ) → code_up_to last (near step v) ≡ Some c → (c ≤ last) × Close step c v
   unfolding near
   code_only c v e = go (within 1 (v -ℤ nearest v (pos step) *ℤ pos step)) refl (nearest v (pos step)) refl e
     where
-      none : no_code ≡ code c → ⊥
-      none e = subst T (sym (ap (λ (x : Code). x.given) e)) tt
-
-      inside : (k : ℕ) → nearest v (pos step) ≡ pos k → within 1 (v -ℤ nearest v (pos step) *ℤ pos step) ≡ true → (b : Bool) → between 0 last (To (pos k)) ≡ b → cond b (code k) no_code ≡ code c → (c ≤ last) × Close step c v
+      inside : (k : ℕ) → nearest v (pos step) ≡ pos k → within 1 (v -ℤ nearest v (pos step) *ℤ pos step) ≡ true → (b : Bool) → between 0 last (Some (pos k)) ≡ b → cond b (Some k) None ≡ Some c → (c ≤ last) × Close step c v
       inside k n w true l e =
-          let same : k ≡ c = ap (λ (x : Code). x.code) e in
+          let same : k ≡ c = same_Some k c e in
           (rw (← same) (leb→le k last (and_right (leb 0 k) (leb k last) (subst T (sym l) tt))), rw (← same) (leb-true (nat_abs (v -ℤ pos (k * step))) 1 (rw n at w)))
-      inside k n w false l e = absurd (none e)
+      inside k n w false l e = absurd (none-some c e)
 
-      go : (b : Bool) → within 1 (v -ℤ nearest v (pos step) *ℤ pos step) ≡ b → (k : ℤ) → nearest v (pos step) ≡ k → code_up_to last (cond b (To k) Nothing) ≡ code c → (c ≤ last) × Close step c v
-      go false w k n e = absurd (none e)
-      go true w (negsuc k) n e = absurd (none e)
-      go true w (pos k) n e = inside k n w (between 0 last (To (pos k))) refl e
+      go : (b : Bool) → within 1 (v -ℤ nearest v (pos step) *ℤ pos step) ≡ b → (k : ℤ) → nearest v (pos step) ≡ k → code_up_to last (cond b (Some k) None) ≡ Some c → (c ≤ last) × Close step c v
+      go false w k n e = absurd (none-some c e)
+      go true w (negsuc k) n e = absurd (none-some c e)
+      go true w (pos k) n e = inside k n w (between 0 last (Some (pos k))) refl e
 
   -- what is near no code of the table is none
-  pub code_none : (v : ℤ) → ((c : ℕ) → c ≤ last → Close step c v → ⊥) → code_up_to last (near step v) ≡ no_code
+  pub code_none : (v : ℤ) → ((c : ℕ) → c ≤ last → Close step c v → ⊥) → code_up_to last (near step v) ≡ None
   code_none v far = go (near step v) refl
     where
-      inside : (k : ℕ) → near step v ≡ To (pos k) → (b : Bool) → between 0 last (To (pos k)) ≡ b → cond b (code k) no_code ≡ no_code
+      inside : (k : ℕ) → near step v ≡ Some (pos k) → (b : Bool) → between 0 last (Some (pos k)) ≡ b → cond b (Some k) None ≡ None
       inside k q true l = let w = code_only k v (rw (q, l)) in absurd (far k w.0 w.1)
       inside k q false l = refl
 
-      go : (n : Near) → near step v ≡ n → code_up_to last n ≡ no_code
-      go Nothing q = refl
-      go (To (negsuc k)) q = refl
-      go (To (pos k)) q = inside k q (between 0 last (To (pos k))) refl
+      go : (n : Option ℤ) → near step v ≡ n → code_up_to last n ≡ None
+      go None q = refl
+      go (Some (negsuc k)) q = refl
+      go (Some (pos k)) q = inside k q (between 0 last (Some (pos k))) refl
 
 -- ---- G and M
 
 -- "a G number likewise at the nearest tenth": every G code, c being ten times the code
-pub g_is : (c : ℕ) (v : ℤ) → c ≤ 999 → Close 1000 c v → g_code v ≡ code c
+pub g_is : (c : ℕ) (v : ℤ) → c ≤ 999 → Close 1000 c v → g_code v ≡ Some c
 unfolding g_code
 g_is c v l p = code_is 1000 999 (omega arith) c v l p
 
-pub g_only : (c : ℕ) (v : ℤ) → g_code v ≡ code c → (c ≤ 999) × Close 1000 c v
+pub g_only : (c : ℕ) (v : ℤ) → g_code v ≡ Some c → (c ≤ 999) × Close 1000 c v
 unfolding g_code
 g_only c v e = code_only 1000 999 (omega arith) c v e
 
 -- "A code outside its table, or near no tenth (M: no whole number), is not served"
-pub g_none : (v : ℤ) → ((c : ℕ) → c ≤ 999 → Close 1000 c v → ⊥) → g_code v ≡ no_code
+pub g_none : (v : ℤ) → ((c : ℕ) → c ≤ 999 → Close 1000 c v → ⊥) → g_code v ≡ None
 unfolding g_code
 g_none v far = code_none 1000 999 (omega arith) v far
 
-pub m_is : (c : ℕ) (v : ℤ) → c ≤ 99 → Close 10000 c v → m_code v ≡ code c
+pub m_is : (c : ℕ) (v : ℤ) → c ≤ 99 → Close 10000 c v → m_code v ≡ Some c
 unfolding m_code
 m_is c v l p = code_is 10000 99 (omega arith) c v l p
 
-pub m_only : (c : ℕ) (v : ℤ) → m_code v ≡ code c → (c ≤ 99) × Close 10000 c v
+pub m_only : (c : ℕ) (v : ℤ) → m_code v ≡ Some c → (c ≤ 99) × Close 10000 c v
 unfolding m_code
 m_only c v e = code_only 10000 99 (omega arith) c v e
 
-pub m_none : (v : ℤ) → ((c : ℕ) → c ≤ 99 → Close 10000 c v → ⊥) → m_code v ≡ no_code
+pub m_none : (v : ℤ) → ((c : ℕ) → c ≤ 99 → Close 10000 c v → ⊥) → m_code v ≡ None
 unfolding m_code
 m_none v far = code_none 10000 99 (omega arith) v far
 
@@ -193,11 +185,11 @@ unfolding system_number
 systems_numbered = refl
 
 -- "G59 is system 6, G59.1 system 7": at most 0.0001 from 59 is the one, at most 0.0001 from 59.1 the other
-pub g59 : (v : ℤ) → Close 1000 590 v → system_number (g_code v).code ≡ 6
+pub g59 : (v : ℤ) → Close 1000 590 v → option_map system_number (g_code v) ≡ Some 6
 unfolding system_number
 g59 v p = rw (g_is 590 v (omega arith) p)
 
-pub g59_1 : (v : ℤ) → Close 1000 591 v → system_number (g_code v).code ≡ 7
+pub g59_1 : (v : ℤ) → Close 1000 591 v → option_map system_number (g_code v) ≡ Some 7
 unfolding system_number
 g59_1 v p = rw (g_is 591 v (omega arith) p)
 

@@ -22,3 +22,4 @@ pub mod Signs
 pub mod WorkCases
 pub mod ConditionCases
 pub mod Marks
+pub mod Soles

@@ -17,6 +17,7 @@ use Rattle.rules.specs.Block.{block_of}
 use Rattle.rules.specs.Refusals.{first}
 use Rattle.rules.specs.Promise.{After, Right, answer_to, place_in, taken, number_of}
 use Rattle.rules.specs.declared.Record.{Record}
+use Rattle.rules.proofs.Answers.{first_carriable}
 use Rattle.rules.proofs.Demands.{by_model, number_is}
 use Rattle.rules.proofs.Told.{cases, given_only}
 use Rattle.rules.proofs.Sound.{SoundTook, line_sound}
@@ -38,5 +39,5 @@ never_4 line switch r table out p h =
     let f = form_of line in
     let e = taken (reading table f) in
     let cs = cases line switch r table out f in
-    let n : first cs ≡ 4 = sym (number_is (first cs) (place_in (reading table f)) e (block_of (words e.entries)) r table out) ∙ (sym (ap (λ (x : After). number_of x.outcome.answer) (by_model line switch r table out p)) ∙ h) in
+    let n : first cs ≡ 4 = sym (number_is (first cs) (place_in (reading table f)) e (block_of (words e.entries)) r table out (first_carriable cs tt)) ∙ (sym (ap (λ (x : After). number_of x.outcome.answer) (by_model line switch r table out p)) ∙ h) in
     not_read table f (given_only 100 4 cs tt (λ e. omega arith) n).1

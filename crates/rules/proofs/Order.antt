@@ -11,12 +11,12 @@ use lib.ListN.{length}
 use lib.IntN.{ℤ}
 use native.Mathlib.Omega.{arith}
 use borrow.Author.Tests.{lt-ltb}
+use Rattle.std.specs.Prelude.{Option, Some}
 use Rattle.grammar.specs.Bytes.{byte, bytes, among}
 use Rattle.rules.specs.Meaning.{Said}
 use Rattle.rules.specs.Codes.{group_of, g_group, m_group, g_code, m_code}
 use Rattle.rules.specs.Block.{twice, word, codes, of_group, block_of, g_codes, m_codes}
-use Rattle.rules.specs.declared.Word.{Word}
-use Rattle.rules.specs.declared.Code.{Code}
+use Rattle.rules.specs.declared.Value.{Value}
 
 -- the different ones of a list
 abbrev pub different : List ℕ → List ℕ
@@ -53,8 +53,8 @@ module _ (v w : Said) (ws : List Said) where
   word_swap : (b : ℕ) → (v.letter ≡ b → w.letter ≡ b → ⊥) → word b (v ∷ w ∷ ws) ≡ word b (w ∷ v ∷ ws)
   word_swap b d = go (eqb v.letter b) (eqb w.letter b) refl refl
     where
-      of : Said → Word
-      of u = record { given = true; value = record { 0 = u.value } }
+      of : Said → Option Value
+      of u = Some (record { 0 = u.value })
 
       go : (x y : Bool) → eqb v.letter b ≡ x → eqb w.letter b ≡ y → cond x (of v) (cond y (of w) (word b ws)) ≡ cond y (of w) (cond x (of v) (word b ws))
       go true true p q = absurd (d (true_eq p) (true_eq q))
@@ -64,25 +64,25 @@ module _ (v w : Said) (ws : List Said) where
 
   pub word_deep : (b : ℕ) → (v.letter ≡ b → w.letter ≡ b → ⊥) → (xs : List Said) → word b (xs ++ v ∷ w ∷ ws) ≡ word b (xs ++ w ∷ v ∷ ws)
   word_deep b d [] = word_swap b d
-  word_deep b d (x ∷ xs) = ap (cond (eqb x.letter b) (record { given = true; value = record { 0 = x.value } })) (word_deep b d xs)
+  word_deep b d (x ∷ xs) = ap (cond (eqb x.letter b) (Some (record { 0 = x.value }))) (word_deep b d xs)
 
-  module _ (b n : ℕ) (group : ℕ → ℕ) (code : ℤ → Code) where
-    abbrev the : List Said → Code
+  module _ (b n : ℕ) (group : ℕ → ℕ) (code : ℤ → Option ℕ) where
+    abbrev the : List Said → Option ℕ
     the l = of_group group n (codes b code l)
 
-    first_of_holds : Bool → Code → List Code → Code
+    first_of_holds : Bool → Option ℕ → List (Option ℕ) → Option ℕ
     first_of_holds y c l = of_group group n (cond y (c ∷ l) l)
 
     code_swap : (v.letter ≡ b → w.letter ≡ b → group_of group (code v.value) ≡ group_of group (code w.value) → ⊥) → the (v ∷ w ∷ ws) ≡ the (w ∷ v ∷ ws)
     code_swap d = go (eqb v.letter b) (eqb w.letter b) refl refl
       where
-        l : List Code
+        l : List (Option ℕ)
         l = codes b code ws
 
-        cv : Code
+        cv : Option ℕ
         cv = code v.value
 
-        cw : Code
+        cw : Option ℕ
         cw = code w.value
 
         pick : (x y : Bool) → eqb (group_of group cv) n ≡ x → eqb (group_of group cw) n ≡ y → (group_of group cv ≡ group_of group cw → ⊥) → cond x cv (cond y cw (of_group group n l)) ≡ cond y cw (cond x cv (of_group group n l))

@@ -16,26 +16,26 @@ use Rattle.grammar.specs.declared.Op.TheVariants.{Add, Sub, Mul, Div, Mod, And, 
 use Rattle.grammar.specs.declared.Func.{Func}
 use Rattle.grammar.specs.declared.Func.TheVariants.{Abs, Fix, Fup, Round}
 use Rattle.rules.specs.Numbers.{in_range}
-use Rattle.rules.specs.Meaning.{ranged, written, number_of, divided, operation, function, parameter_of, entry, then, Entry, word_is, setting_is, word_of, setting_of, setting_at, runs, condition_of, arithmetic}
-use Rattle.rules.specs.declared.Worked.{Worked}
-use Rattle.rules.specs.declared.Worked.TheVariants.{Good, Bad}
-use Rattle.rules.specs.declared.Parameter.{Parameter}
-use Rattle.rules.specs.declared.Parameter.TheVariants.{Number as Numbered, Outside}
+use Rattle.rules.specs.Meaning.{Worked, ranged, written, number_of, divided, operation, function, parameter_of, entry, then, Entry, word_is, setting_is, word_of, setting_of, setting_at, runs, condition_of, arithmetic}
+use Rattle.std.specs.Prelude.{Option, Some, None, Ok, Err}
+use Rattle.rules.specs.Named.{refusal_number}
+use Rattle.rules.specs.declared.Refusal.{Refusal}
+use Rattle.rules.specs.declared.Refusal.TheVariants.{OutOfRange, ZeroDivisor, NoParameter}
 
 -- ---- what is worked out: a value in range, or one of the numbers 5 to 7
 abbrev pub Sound : Worked → Type 0
-Sound (Good v) = in_range v.0 ≡ true
-Sound (Bad n) = (5 ≤ n) × (n ≤ 7)
+Sound (Ok v) = in_range v.0 ≡ true
+Sound (Err why) = (5 ≤ refusal_number why) × (refusal_number why ≤ 7)
 
 ranged_sound : (z : ℤ) → Sound (ranged z)
 unfolding ranged
 ranged_sound z = go (in_range z) refl
   where
-    go : (c : Bool) → in_range z ≡ c → Sound (cond c (Good (record { 0 = z })) (Bad 5))
+    go : (c : Bool) → in_range z ≡ c → Sound (cond c (Ok (record { 0 = z })) (Err OutOfRange))
     go true e = e
     go false e = (omega arith, omega arith)
 
-if_sound : (c : Bool) (n : ℕ) (w : Worked) → 5 ≤ n → n ≤ 7 → Sound w → Sound (cond c (Bad n) w)
+if_sound : (c : Bool) (why : Refusal) (w : Worked) → 5 ≤ refusal_number why → refusal_number why ≤ 7 → Sound w → Sound (cond c (Err why) w)
 if_sound true n w l m s = (l, m)
 if_sound false n w l m s = s
 
@@ -48,7 +48,7 @@ unfolding number_of
 number_sound (num s ds f) = written_sound _ _ _
 
 divided_sound : (b q : ℤ) → Sound (divided b q)
-divided_sound b q = if_sound (eqb (nat_abs b) 0) 6 (ranged q) (omega arith) (omega arith) (ranged_sound q)
+divided_sound b q = if_sound (eqb (nat_abs b) 0) ZeroDivisor (ranged q) (omega arith) (omega arith) (ranged_sound q)
 
 operation_sound : (o : Op) (a b : ℤ) → Sound (operation o a b)
 unfolding operation
@@ -68,13 +68,13 @@ function_sound Fix a = ranged_sound _
 function_sound Fup a = ranged_sound _
 function_sound Round a = ranged_sound _
 
-entry_sound : (table : List ℤ) (p : Parameter) → Sound (entry table p)
-entry_sound table (Numbered n) = ranged_sound _
-entry_sound table Outside = (omega arith, omega arith)
+entry_sound : (table : List ℤ) (p : Option ℕ) → Sound (entry table p)
+entry_sound table (Some n) = ranged_sound _
+entry_sound table None = (omega arith, omega arith)
 
 then_sound : (w : Worked) (k : ℤ → Worked) → Sound w → ((z : ℤ) → Sound (k z)) → Sound (then w k)
-then_sound (Good v) k s h = h v.0
-then_sound (Bad n) k s h = s
+then_sound (Ok v) k s h = h v.0
+then_sound (Err n) k s h = s
 
 -- ---- words and settings
 abbrev pub SoundTook : Took Entry → Type 0
@@ -125,17 +125,17 @@ module _ (table : List ℤ) where
     pairs_sound (more o v r) = (value_sound v, pairs_sound r)
 
   word_sound : (b : ℕ) (w : Worked) (t : Took Entry) → Sound w → SoundTook t → SoundTook (after (word_of b w) t)
-  word_sound b (Good v) t s k = (s, k)
-  word_sound b (Bad n) t s k = s
+  word_sound b (Ok v) t s k = (s, k)
+  word_sound b (Err n) t s k = s
 
-  setting_at_sound : (p : Parameter) (w : Worked) (t : Took Entry) → Sound w → SoundTook t → SoundTook (after (setting_at p w) t)
-  setting_at_sound Outside w t s k = (omega arith, omega arith)
-  setting_at_sound (Numbered n) (Good v) t s k = k
-  setting_at_sound (Numbered n) (Bad m) t s k = s
+  setting_at_sound : (p : Option ℕ) (w : Worked) (t : Took Entry) → Sound w → SoundTook t → SoundTook (after (setting_at p w) t)
+  setting_at_sound None w t s k = (omega arith, omega arith)
+  setting_at_sound (Some n) (Ok v) t s k = k
+  setting_at_sound (Some n) (Err m) t s k = s
 
   setting_sound : (a b : Worked) (t : Took Entry) → Sound a → Sound b → SoundTook t → SoundTook (after (setting_of a b) t)
-  setting_sound (Good v) b t s u k = setting_at_sound (parameter_of v.0) b t u k
-  setting_sound (Bad n) b t s u k = s
+  setting_sound (Ok v) b t s u k = setting_at_sound (parameter_of v.0) b t u k
+  setting_sound (Err n) b t s u k = s
 
   pub entries_sound : (is : List Item) → SoundTook (entries (arithmetic table) is)
   entries_sound [] = tt
@@ -144,8 +144,8 @@ module _ (table : List ℤ) where
   entries_sound (comment bs ∷ is) = entries_sound is
 
   condition_sound : (k : Stroke) (w : Worked) (t : Took Entry) → Sound w → SoundTook t → (after (condition_of k w) t ≡ stopped 100) ⊎ SoundTook (after (condition_of k w) t)
-  condition_sound k (Bad n) t s h = inr s
-  condition_sound k (Good v) t s h = go (runs k v.0)
+  condition_sound k (Err n) t s h = inr s
+  condition_sound k (Ok v) t s h = go (runs k v.0)
     where
       go : (c : Bool) → (after (cond c skip (stop 100)) t ≡ stopped 100) ⊎ SoundTook (after (cond c skip (stop 100)) t)
       go true = inr h

@@ -17,6 +17,7 @@ use Rattle.grammar.specs.Working.{Contents, contents}
 use Rattle.grammar.proofs.Derivations.{decided}
 use Rattle.grammar.proofs.Stuck.{stuck_at, breaks}
 use Rattle.grammar.proofs.ByForm.{form_of}
+use Rattle.rules.specs.Named.{refusal_of}
 use Rattle.rules.specs.Meaning.{Entry, arithmetic, reading, Said, words, meets}
 use Rattle.rules.specs.Block.{block_of}
 use Rattle.rules.specs.Steps.{ready}
@@ -27,6 +28,7 @@ use Rattle.rules.specs.Promise.{After, Right, answer, answer_to, leaving, misfor
 use Rattle.rules.specs.declared.Block.{Block}
 use Rattle.rules.specs.declared.Record.{Record}
 use Rattle.rules.specs.declared.Answer.TheVariants.{Refused, Skipped}
+use Rattle.rules.proofs.Answers.{first_carriable}
 use Rattle.rules.proofs.Demands.{by_model, number_is, three, lacks, lacking}
 
 -- ---- one law about an ordered list of numbers with their conditions
@@ -126,7 +128,7 @@ module _ (line : List ℕ) (switch : Bool) (r : Record) (table out : List ℤ) w
   unasked t = early ++ (3 when false) ∷ (16 when too_deep (read t)) ∷ []
 
   abbrev pub refused : ℕ → After
-  refused n = leaving (Refused n) r table out
+  refused n = leaving (Refused (refusal_of n)) r table out
 
   pub record Told (a : After) : Type 0 where
     pub disordered : disorder r table ≡ true → a ≡ refused 1
@@ -267,7 +269,7 @@ module _ (line : List ℕ) (switch : Bool) (r : Record) (table out : List ℤ) w
   module _ {a : After} (p : Right line switch r table out a) (t : Line) (d : Derives t line) where
     number_first : number_of a.outcome.answer ≡ first (cases (derived t))
     unfolding answer_to
-    number_first = ap (λ (x : After). number_of x.outcome.answer) (p.by_tree t d) ∙ number_is (first (cases (derived t))) 0 (read t) (block t) r table out
+    number_first = ap (λ (x : After). number_of x.outcome.answer) (p.by_tree t d) ∙ number_is (first (cases (derived t))) 0 (read t) (block t) r table out (first_carriable (cases (derived t)) tt)
 
     pub exactly : (n : ℕ) → (n ≡ 100 → ⊥) → (number_of a.outcome.answer ≡ n) ↔ (T (none_before n (cases (derived t))) × T (condition n (cases (derived t))))
     exactly n u =
@@ -297,4 +299,4 @@ module _ (line : List ℕ) (switch : Bool) (r : Record) (table out : List ℤ) w
       three_to n =
           let e = p.by_place n (stuck_at line) (breaks line n) in
           let c : Form (Contents Entry) = breaks_at (stuck_at line) in
-          e ∙ three (first (numbers true (taken c) (block_of []) line switch r table (length out))) (stuck_at line) (taken c) (block_of []) r table out (sym (ap (λ (x : After). number_of x.outcome.answer) e) ∙ h)
+          e ∙ three (first (numbers true (taken c) (block_of []) line switch r table (length out))) (stuck_at line) (taken c) (block_of []) r table out (first_carriable (numbers true (taken c) (block_of []) line switch r table (length out)) tt) (sym (ap (λ (x : After). number_of x.outcome.answer) e) ∙ h)

@@ -2,7 +2,7 @@
 -- Assumes nothing.
 use Rattle.std.specs.Prelude.{Bool, cond, ◌&&◌, ◌||◌, List, [], ◌∷◌, map, ℕ, ◌+◌, ◌-◌, ◌*◌, eqb, ltb, ℤ, nat_abs}
 use Rattle.grammar.specs.Bytes.{among}
-use Rattle.rules.specs.Block.{offset, moves}
+use Rattle.rules.specs.Block.{amount, offset, moves}
 use Rattle.rules.specs.Reach.{◌plus◌, ◌less◌, at}
 use Rattle.rules.specs.Steps.{long, target, motion_of}
 use Rattle.rules.specs.declared.Length.{Length}
@@ -19,7 +19,7 @@ plane_axes plane = cond (eqb plane 170) (0 ∷ 1 ∷ []) (cond (eqb plane 180) (
 
 -- "centre = position + offset words on the plane (X with I, Y with J, Z with K; a missing one counts 0), under G91 too"
 abbrev pub centre_at : Block → Record → ℕ → Length
-centre_at b r i = at r.position i plus long r (offset b i)
+centre_at b r i = at r.position i plus long r (amount (offset b i))
 
 unfoldable pub centre : Block → Record → List Length
 centre b r = map (centre_at b r) (plane_axes r.plane)

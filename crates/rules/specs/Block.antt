@@ -1,43 +1,43 @@
 -- The summary of a line: its words by letter and its codes by group, in whatever order they stand.
 -- Assumes nothing.
-use Rattle.std.specs.Prelude.{Bool, true, false, cond, not, ◌||◌, ◌&&◌, List, [], ◌∷◌, ℕ, eqb, get_or, ℤ, pos}
+use Rattle.std.specs.Prelude.{Bool, false, cond, not, ◌||◌, ◌&&◌, List, [], ◌∷◌, ℕ, eqb, get_or, ℤ, pos, is_some, unwrap_or}
+use Rattle.std.specs.Prelude.{Option, None, Some}
 use Rattle.grammar.specs.Bytes.{byte, bytes, among}
 use Rattle.rules.specs.Meaning.{Said}
-use Rattle.rules.specs.Codes.{g_group, m_group, g_code, m_code, no_code, group_of}
-use Rattle.rules.specs.declared.Word.{Word}
-use Rattle.rules.specs.declared.Code.{Code}
+use Rattle.rules.specs.Codes.{g_group, m_group, g_code, m_code, group_of}
+use Rattle.rules.specs.declared.Value.{Value}
 use Rattle.rules.specs.declared.Block.{Block}
 
--- no word: "a missing one counts 0"
-abbrev pub no_word : Word
-no_word = record { given = false; value = record { 0 = pos 0 } }
+-- the line's word of a letter, where it has one
+abbrev pub word : ℕ → List Said → Option Value
+word b [] = None
+word b (w ∷ ws) = cond (eqb w.letter b) (Some (record { 0 = w.value })) (word b ws)
 
--- the line's word of a letter
-abbrev pub word : ℕ → List Said → Word
-word b [] = no_word
-word b (w ∷ ws) = cond (eqb w.letter b) (record { given = true; value = record { 0 = w.value } }) (word b ws)
+-- what a word counts: "a missing one counts 0"
+abbrev pub amount : Option Value → Value
+amount w = unwrap_or w (record { 0 = pos 0 })
 
 -- the codes after G, or after M
-abbrev pub codes : ℕ → (ℤ → Code) → List Said → List Code
+abbrev pub codes : ℕ → (ℤ → Option ℕ) → List Said → List (Option ℕ)
 codes b code [] = []
 codes b code (w ∷ ws) = cond (eqb w.letter b) (code w.value ∷ codes b code ws) (codes b code ws)
 
-unfoldable pub g_codes : List Said → List Code
+unfoldable pub g_codes : List Said → List (Option ℕ)
 g_codes ws = codes (byte "G") g_code ws
 
-unfoldable pub m_codes : List Said → List Code
+unfoldable pub m_codes : List Said → List (Option ℕ)
 m_codes ws = codes (byte "M") m_code ws
 
--- the line's code of a group
-abbrev pub of_group : (ℕ → ℕ) → ℕ → List Code → Code
-of_group group g [] = no_code
+-- the line's code of a group, where it has one
+abbrev pub of_group : (ℕ → ℕ) → ℕ → List (Option ℕ) → Option ℕ
+of_group group g [] = None
 of_group group g (c ∷ cs) = cond (eqb (group_of group c) g) c (of_group group g cs)
 
 -- the line's G code of a group, and its M code of a group
-abbrev pub g_of : ℕ → List Said → Code
+abbrev pub g_of : ℕ → List Said → Option ℕ
 g_of n ws = of_group g_group n (g_codes ws)
 
-abbrev pub m_of : ℕ → List Said → Code
+abbrev pub m_of : ℕ → List Said → Option ℕ
 m_of n ws = of_group m_group n (m_codes ws)
 
 -- the summary
@@ -73,23 +73,25 @@ twice [] = false
 twice (x ∷ xs) = among x xs || twice xs
 
 -- the words of an axis: 0 X, 1 Y, 2 Z, and 0 I, 1 J, 2 K
-abbrev pub axis : Block → ℕ → Word
-axis b i = get_or b.axes i no_word
+abbrev pub axis : Block → ℕ → Option Value
+axis b i = get_or b.axes i None
 
-abbrev pub offset : Block → ℕ → Word
-offset b i = get_or b.offsets i no_word
+abbrev pub offset : Block → ℕ → Option Value
+offset b i = get_or b.offsets i None
 
 -- that code is on the line; one of those is
-abbrev pub has : Code → ℕ → Bool
-has c n = c.given && eqb c.code n
+abbrev pub has : Option ℕ → ℕ → Bool
+has None n = false
+has (Some c) n = eqb c n
 
-abbrev pub has_one : Code → List ℕ → Bool
-has_one c ns = c.given && among c.code ns
+abbrev pub has_one : Option ℕ → List ℕ → Bool
+has_one None ns = false
+has_one (Some c) ns = among c ns
 
 -- one of these axes has a word
-abbrev pub any_of : (ℕ → Word) → List ℕ → Bool
+abbrev pub any_of : (ℕ → Option Value) → List ℕ → Bool
 any_of w [] = false
-any_of w (i ∷ is) = (w i).given || any_of w is
+any_of w (i ∷ is) = is_some (w i) || any_of w is
 
 -- X, Y, Z
 abbrev pub all_axes : List ℕ
@@ -120,5 +122,5 @@ unfoldable pub moves : Block → Bool
 moves b = names_axis b && not (sets_origin b || sets_offset b)
 
 -- the line's code, "or else the record's"
-abbrev pub or_else : Code → ℕ → ℕ
-or_else c old = cond c.given c.code old
+abbrev pub or_else : Option ℕ → ℕ → ℕ
+or_else c old = unwrap_or c old

@@ -1,10 +1,8 @@
 -- The codes served, by modal group as document 01 lists them. G codes are held as ten times the code.
 -- Assumes nothing.
-use Rattle.std.specs.Prelude.{true, false, cond, List, [], ◌∷◌, ℕ, zero, suc, eqb, ℤ}
+use Rattle.std.specs.Prelude.{cond, List, [], ◌∷◌, ℕ, zero, suc, eqb, ℤ, Option, None, Some}
 use Rattle.grammar.specs.Bytes.{among}
 use Rattle.rules.specs.Numbers.{whole, tenth, between, counted}
-use Rattle.rules.specs.declared.Near.{Near}
-use Rattle.rules.specs.declared.Code.{Code}
 
 -- a modal group: its number and its codes
 infix 25 ◌holds◌
@@ -54,24 +52,26 @@ g_group code = listed_in g_groups code
 unfoldable pub m_group : ℕ → ℕ
 m_group code = listed_in m_groups code
 
-abbrev pub no_code : Code
-no_code = record { given = false; code = 0 }
+-- a group, where it is one: the group of a code that is served
+abbrev pub served : ℕ → Option ℕ
+served g = cond (eqb g not_served) None (Some g)
 
 -- the code that a value counts as, where its table has that entry
-abbrev pub code_up_to : ℕ → Near → Code
-code_up_to last n = cond (between 0 last n) (record { given = true; code = counted n }) no_code
+abbrev pub code_up_to : ℕ → Option ℤ → Option ℕ
+code_up_to last n = cond (between 0 last n) (Some (counted n)) None
 
 -- "One table of 1,000 entries, by ten times the code"; "a G number likewise at the nearest tenth"
-unfoldable pub g_code : ℤ → Code
+unfoldable pub g_code : ℤ → Option ℕ
 g_code v = code_up_to 999 (tenth v)
 
 -- "from a table of 100 entries"; "Where a whole number is wanted"
-unfoldable pub m_code : ℤ → Code
+unfoldable pub m_code : ℤ → Option ℕ
 m_code v = code_up_to 99 (whole v)
 
 -- "A code outside its table, or near no tenth (M: no whole number), is not served"
-abbrev pub group_of : (ℕ → ℕ) → Code → ℕ
-group_of group c = cond c.given (group c.code) not_served
+abbrev pub group_of : (ℕ → ℕ) → Option ℕ → ℕ
+group_of group None = not_served
+group_of group (Some c) = group c
 
 -- one place further on; no place stays none
 abbrev pub further : ℕ → ℕ
@@ -86,3 +86,8 @@ place_in (x ∷ xs) code = cond (eqb code x) 1 (further (place_in xs code))
 -- "G59 is system 6, G59.1 system 7"
 unfoldable pub system_number : ℕ → ℕ
 system_number code = place_in systems code
+
+-- a number counted from 1, where it is one
+abbrev pub numbered : ℕ → Option ℕ
+numbered zero = None
+numbered (suc n) = Some (suc n)

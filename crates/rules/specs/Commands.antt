@@ -1,7 +1,8 @@
 -- The commands of an accepted line, as a list.
 -- Assumes nothing.
-use Rattle.std.specs.Prelude.{Bool, cond, List, [], ◌∷◌, ◌++◌, map, ℕ, zero, suc, ◌/◌, eqb, ℤ, pos}
-use Rattle.rules.specs.Block.{dwells, moves}
+use Rattle.std.specs.Prelude.{Bool, cond, List, [], ◌∷◌, ◌++◌, map, ℕ, zero, suc, ◌/◌, eqb, ℤ, pos, option_map, option_to_list}
+use Rattle.std.specs.Prelude.{Option}
+use Rattle.rules.specs.Block.{amount, dwells, moves}
 use Rattle.rules.specs.Steps.{spindle_of, coolant_of, target, motion_of}
 use Rattle.rules.specs.Arcs.{arc_move, centre}
 use Rattle.rules.specs.declared.Length.{Length}
@@ -27,6 +28,10 @@ eight c = pos c.kind ∷ c.fields
 abbrev pub only : Bool → Command → List Command
 only b c = cond b (c ∷ []) []
 
+-- a command that comes only where the line has the word or code, and that tells of it
+abbrev pub of_word : {A : Type 0} → (A → Command) → Option A → List Command
+of_word c w = option_to_list (option_map c w)
+
 -- lengths as numbers, "in machine counts"
 abbrev pub numbers : List Length → List ℤ
 numbers ls = map (λ (l : Length). l.0) ls
@@ -40,15 +45,15 @@ move_command b r =
 -- the list, in the order of the steps; r is the record as the motion step finds it. "Kinds 1–6 come only where the line has the word or code"
 unfoldable pub commands : Block → Record → List Command
 commands b r =
-    only b.f.given (command 1 (r.feed.0 ∷ []))
-    ++ only b.s.given (command 2 (r.speed.0 ∷ []))
-    ++ only b.t.given (command 3 (pos r.tool ∷ []))
-    ++ only b.change.given (command 4 [])
-    ++ only b.spindle.given (command 5 (pos (spindle_of b.spindle.code) ∷ []))
-    ++ only b.coolant.given (command 6 (pos (coolant_of b.coolant.code) ∷ []))
-    ++ only (dwells b) (command 7 (b.p.value.0 ∷ []))
+    of_word (λ _. command 1 (r.feed.0 ∷ [])) b.f
+    ++ of_word (λ _. command 2 (r.speed.0 ∷ [])) b.s
+    ++ of_word (λ _. command 3 (pos r.tool ∷ [])) b.t
+    ++ of_word (λ _. command 4 []) b.change
+    ++ of_word (λ m. command 5 (pos (spindle_of m) ∷ [])) b.spindle
+    ++ of_word (λ m. command 6 (pos (coolant_of m) ∷ [])) b.coolant
+    ++ only (dwells b) (command 7 ((amount b.p).0 ∷ []))
     ++ only (moves b) (move_command b r)
-    ++ only b.stop.given (command 11 (pos b.stop.code ∷ []))
+    ++ of_word (λ m. command 11 (pos m ∷ [])) b.stop
 
 -- the commands, one after the other
 abbrev pub written : List Command → List ℤ

@@ -4,6 +4,7 @@ use Rattle.std.specs.Prelude.{◌≡◌, false, cond, List, [], ◌∷◌, ◌++
 use Rattle.grammar.specs.Bytes.{byte, bytes, among}
 use Rattle.grammar.specs.Grammar.{Line}
 use Rattle.grammar.specs.Derivation.{Form, ByForm}
+use Rattle.rules.specs.Named.{refusal_number}
 use Rattle.rules.specs.Reach.{fresh}
 use Rattle.rules.specs.Promise.{After, answer}
 use Rattle.rules.specs.declared.Record.{Record}
@@ -73,7 +74,7 @@ worked tree line r table = answer (tree line) line false r table (replicate 8000
 abbrev pub onward : Answer → List ℤ → List ℕ → List ℕ
 onward (Accepted n) out rest = frames_in n out ++ rest
 onward Skipped out rest = rest
-onward (Refused n) out rest = refusal_frame n
+onward (Refused why) out rest = refusal_frame (refusal_number why)
 
 abbrev pub frames_from : (List ℕ → Form Line) → List (List ℕ) → Record → List ℤ → List ℕ
 frames_from tree [] r table = []

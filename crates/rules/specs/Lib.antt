@@ -1,3 +1,4 @@
+pub mod Named
 pub mod Numbers
 pub mod Meaning
 pub mod Codes

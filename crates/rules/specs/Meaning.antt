@@ -1,6 +1,6 @@
 -- What the values of a tree come to, from the table as it was at entry, and the numbers 4 to 7.
 -- Assumes nothing.
-use Rattle.std.specs.Prelude.{Bool, true, false, cond, not, ◌&&◌, ◌||◌, List, [], ◌∷◌, ◌++◌, ℕ, ◌+◌, ◌-◌, ◌*◌, ◌^◌, eqb, length, get_or, ℤ, pos, nat_abs, ◌+ℤ◌, ◌-ℤ◌, ◌*ℤ◌}
+use Rattle.std.specs.Prelude.{Bool, true, false, cond, not, ◌&&◌, ◌||◌, List, [], ◌∷◌, ◌++◌, ℕ, ◌+◌, ◌-◌, ◌*◌, ◌^◌, eqb, length, get_or, ℤ, pos, nat_abs, ◌+ℤ◌, ◌-ℤ◌, ◌*ℤ◌, Option, Some, None, Result, Ok, Err}
 use Rattle.grammar.specs.Bytes.{byte}
 use Rattle.grammar.specs.Grammar.{Sign, unsigned, plus, minus, Number, num, fraction_digits, Stroke, slash, backslash, Line}
 use Rattle.grammar.specs.Derivation.{Form}
@@ -10,16 +10,20 @@ use Rattle.grammar.specs.declared.Op.TheVariants.{Add, Sub, Mul, Div, Mod, And, 
 use Rattle.grammar.specs.declared.Func.{Func}
 use Rattle.grammar.specs.declared.Func.TheVariants.{Abs, Fix, Fup, Round}
 use Rattle.rules.specs.Numbers.{signed, within, in_range, nearest, residue, down, upward, rounded, is_true, truth, whole, between, counted, differ}
-use Rattle.rules.specs.declared.Worked.{Worked}
-use Rattle.rules.specs.declared.Worked.TheVariants.{Good, Bad}
-use Rattle.rules.specs.declared.Parameter.{Parameter}
-use Rattle.rules.specs.declared.Parameter.TheVariants.{Number as Numbered, Outside}
+use Rattle.rules.specs.Named.{refusal_number}
+use Rattle.rules.specs.declared.Value.{Value}
+use Rattle.rules.specs.declared.Refusal.{Refusal}
+use Rattle.rules.specs.declared.Refusal.TheVariants.{OutOfRange, ZeroDivisor, NoParameter}
+
+-- what a value comes to when it is worked out: the value, or why the line is refused
+abbrev pub Worked : Type 0
+Worked = Result Value Refusal
 
 -- ---- numbers 4 to 7
 
 -- number 5: "a value written, worked out or read from the table is out of range"
 unfoldable pub ranged : ℤ → Worked
-ranged z = cond (in_range z) (Good (record { 0 = z })) (Bad 5)
+ranged z = cond (in_range z) (Ok (record { 0 = z })) (Err OutOfRange)
 
 -- the number that decimal digits write after n, most significant first
 unfoldable pub decimal : ℕ → List ℕ → ℕ
@@ -42,7 +46,7 @@ number_of (num s ds f) = written (negative s) (decimal 0 (ds ++ fraction_digits 
 
 -- number 6: "divisor zero in / or MOD"
 abbrev pub divided : ℤ → ℤ → Worked
-divided b q = cond (eqb (nat_abs b) 0) (Bad 6) (ranged q)
+divided b q = cond (eqb (nat_abs b) 0) (Err ZeroDivisor) (ranged q)
 
 -- "`+ -` are exact. `*` and `/` go to the nearest ten-thousandth, halves away from zero." "AND, OR, XOR take non-zero as true and give 1 or 0"
 unfoldable pub operation : Op → ℤ → ℤ → Worked
@@ -63,20 +67,20 @@ function Fup a = ranged (upward a)
 function Round a = ranged (rounded a)
 
 -- number 7: "parameter number not 1–4,999"
-unfoldable pub parameter_of : ℤ → Parameter
-parameter_of v = cond (between 1 4999 (whole v)) (Numbered (counted (whole v))) Outside
+unfoldable pub parameter_of : ℤ → Option ℕ
+parameter_of v = cond (between 1 4999 (whole v)) (Some (counted (whole v))) None
 
 -- "read from the table"
-abbrev pub entry : List ℤ → Parameter → Worked
-entry table (Numbered n) = ranged (get_or table n (pos 0))
-entry table Outside = Bad 7
+abbrev pub entry : List ℤ → Option ℕ → Worked
+entry table (Some n) = ranged (get_or table n (pos 0))
+entry table None = Err NoParameter
 
 -- ---- what a tree comes to
 
 -- what was worked out goes on; a refusal stays
 abbrev pub then : Worked → (ℤ → Worked) → Worked
-then (Good v) k = k v.0
-then (Bad n) k = Bad n
+then (Ok v) k = k v.0
+then (Err why) k = Err why
 
 -- a word with its value, or a setting with its parameter's number and its value
 pub data Entry : Type 0 where
@@ -84,18 +88,18 @@ pub data Entry : Type 0 where
   setting_is : ℕ → ℤ → Entry
 
 abbrev pub word_of : ℕ → Worked → Step Entry
-word_of b (Good v) = give (word_is b v.0)
-word_of b (Bad n) = stop n
+word_of b (Ok v) = give (word_is b v.0)
+word_of b (Err why) = stop (refusal_number why)
 
-abbrev pub setting_at : Parameter → Worked → Step Entry
-setting_at Outside w = stop 7
-setting_at (Numbered n) (Good v) = give (setting_is n v.0)
-setting_at (Numbered n) (Bad k) = stop k
+abbrev pub setting_at : Option ℕ → Worked → Step Entry
+setting_at None w = stop 7
+setting_at (Some n) (Ok v) = give (setting_is n v.0)
+setting_at (Some n) (Err why) = stop (refusal_number why)
 
 -- "The value after `#` is judged as a parameter number as soon as it is worked out"
 abbrev pub setting_of : Worked → Worked → Step Entry
-setting_of (Good v) w = setting_at (parameter_of v.0) w
-setting_of (Bad n) w = stop n
+setting_of (Ok v) w = setting_at (parameter_of v.0) w
+setting_of (Err why) w = stop (refusal_number why)
 
 -- "`/[expression]` (run if not zero) and `\[expression]` (run if zero)"; "Zero means at most 0.0001 from zero"
 abbrev pub runs : Stroke → ℤ → Bool
@@ -104,8 +108,8 @@ runs backslash v = within 1 v
 
 -- "if it says no, the line is skipped": 100 is a skip's number; "3 to 7 may now come from a condition, before anything else on the line"
 abbrev pub condition_of : Stroke → Worked → Step Entry
-condition_of k (Good v) = cond (runs k v.0) skip (stop 100)
-condition_of k (Bad n) = stop n
+condition_of k (Ok v) = cond (runs k v.0) skip (stop 100)
+condition_of k (Err why) = stop (refusal_number why)
 
 -- "All values on a line are worked out left to right from the table as it was at entry"; "an operation is worked out once its right side is"
 abbrev pub arithmetic : List ℤ → Arithmetic Worked Entry

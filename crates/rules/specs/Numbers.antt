@@ -1,9 +1,7 @@
 -- Program values are whole numbers of ten-thousandths of a unit. What rounding, MOD, FIX, FUP and nearness mean for them.
 -- Assumes nothing.
-use Rattle.std.specs.Prelude.{Bool, true, false, cond, not, ◌&&◌, ℕ, ◌+◌, ◌-◌, ◌*◌, ◌/◌, ◌%◌, leb, eqb, ℤ, pos, negsuc, neg_ℤ, nat_abs, ◌-ℤ◌, ◌*ℤ◌}
+use Rattle.std.specs.Prelude.{Bool, true, false, cond, not, ◌&&◌, ℕ, ◌+◌, ◌-◌, ◌*◌, ◌/◌, ◌%◌, leb, eqb, ℤ, pos, negsuc, neg_ℤ, nat_abs, ◌-ℤ◌, ◌*ℤ◌, Option, Some, None}
 use Rattle.std.specs.Bool.{beq}
-use Rattle.rules.specs.declared.Near.{Near}
-use Rattle.rules.specs.declared.Near.TheVariants.{To, Nothing}
 
 -- it is below zero
 abbrev pub minus : ℤ → Bool
@@ -59,24 +57,24 @@ abbrev pub truth : Bool → ℤ
 truth b = pos (cond b 10000 0)
 
 -- "a value at most 0.0001 from one counts as it": from a multiple of so many ten-thousandths
-unfoldable pub near : ℕ → ℤ → Near
-near step a = cond (within 1 (a -ℤ (nearest a (pos step) *ℤ pos step))) (To (nearest a (pos step))) Nothing
+unfoldable pub near : ℕ → ℤ → Option ℤ
+near step a = cond (within 1 (a -ℤ (nearest a (pos step) *ℤ pos step))) (Some (nearest a (pos step))) None
 
 -- "Where a whole number is wanted"
-abbrev pub whole : ℤ → Near
+abbrev pub whole : ℤ → Option ℤ
 whole a = near 10000 a
 
 -- "a G number likewise at the nearest tenth"
-abbrev pub tenth : ℤ → Near
+abbrev pub tenth : ℤ → Option ℤ
 tenth a = near 1000 a
 
 -- it is one, and lies from low to high
-abbrev pub between : ℕ → ℕ → Near → Bool
-between low high Nothing = false
-between low high (To (negsuc k)) = false
-between low high (To (pos k)) = leb low k && leb k high
+abbrev pub between : ℕ → ℕ → Option ℤ → Bool
+between low high None = false
+between low high (Some (negsuc k)) = false
+between low high (Some (pos k)) = leb low k && leb k high
 
 -- its number, 0 where there is none
-abbrev pub counted : Near → ℕ
-counted Nothing = 0
-counted (To k) = nat_abs k
+abbrev pub counted : Option ℤ → ℕ
+counted None = 0
+counted (Some k) = nat_abs k

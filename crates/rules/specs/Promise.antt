@@ -5,6 +5,7 @@ use Rattle.grammar.specs.Bytes.{byte}
 use Rattle.grammar.specs.Grammar.{Line}
 use Rattle.grammar.specs.Derivation.{blank, Form, derived, breaks_at, ByForm}
 use Rattle.grammar.specs.Working.{end, Contents}
+use Rattle.rules.specs.Named.{refusal_number, refusal_of}
 use Rattle.rules.specs.Meaning.{Entry, reading, meets, words, settings, Setting}
 use Rattle.rules.specs.Block.{block_of}
 use Rattle.rules.specs.Reach.{in_order}
@@ -16,22 +17,23 @@ use Rattle.rules.specs.declared.Block.{Block}
 use Rattle.rules.specs.declared.Outcome.{Outcome}
 use Rattle.rules.specs.declared.Report.{Report}
 use Rattle.rules.specs.declared.Answer.{Answer}
+use Rattle.rules.specs.declared.Refusal.TheVariants.{WrongForm}
 use Rattle.rules.specs.declared.Answer.TheVariants.{Accepted, Refused, Skipped}
 
 -- "Acceptance carries number 0 and a skip 100. Every refusal and skip returns count 0"
 abbrev pub number_of : Answer → ℕ
 number_of (Accepted n) = 0
-number_of (Refused n) = n
+number_of (Refused why) = refusal_number why
 number_of Skipped = 100
 
 abbrev pub count_of : Answer → ℕ
 count_of (Accepted n) = n
-count_of (Refused n) = 0
+count_of (Refused why) = 0
 count_of Skipped = 0
 
--- and back: the answer with `number_of` n and, where it is an acceptance, `count_of` k; a refusal that carries acceptance's number or a skip's is never given
+-- and back: the answer with `number_of` n and, where it is an acceptance, `count_of` k
 abbrev pub answer_of : ℕ → ℕ → Answer
-answer_of n k = cond (eqb n (number_of (Accepted k))) (Accepted k) (cond (eqb n (number_of Skipped)) Skipped (Refused n))
+answer_of n k = cond (eqb n (number_of (Accepted k))) (Accepted k) (cond (eqb n (number_of Skipped)) Skipped (Refused (refusal_of n)))
 
 -- all that a call leaves: its result with the record, the work and the place it reports, and what each lent space holds
 pub record After : Type 0 where
@@ -55,7 +57,7 @@ leaving a r table out = worth 0 a r table out
 
 -- "Refusal 3 also gives a place"
 abbrev pub misformed : ℕ → Record → List ℤ → List ℤ → After
-misformed place r table out = record { outcome = record { answer = Refused 3; rec = r }; work = 0; place = place; table = table; out = out }
+misformed place r table out = record { outcome = record { answer = Refused WrongForm; rec = r }; work = 0; place = place; table = table; out = out }
 
 -- number 1: "table length is not 5,000, or a record field is outside its range"
 unfoldable pub disorder : Record → List ℤ → Bool

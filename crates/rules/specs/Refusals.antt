@@ -1,6 +1,7 @@
 -- The numbers 8 to 15, in their order.
 -- Assumes nothing.
-use Rattle.std.specs.Prelude.{Bool, cond, not, ◌&&◌, ◌||◌, List, [], ◌∷◌, map, ℕ, ◌*◌, eqb, ltb, length, nat_abs}
+use Rattle.std.specs.Prelude.{Bool, false, cond, not, ◌&&◌, ◌||◌, List, [], ◌∷◌, map, ℕ, ◌*◌, eqb, ltb, length, nat_abs, is_some}
+use Rattle.std.specs.Prelude.{Option, None, Some}
 use Rattle.grammar.specs.Bytes.{among}
 use Rattle.rules.specs.Numbers.{minus, whole, between}
 use Rattle.rules.specs.Meaning.{Said}
@@ -10,7 +11,7 @@ use Rattle.rules.specs.Reach.{in_reach}
 use Rattle.rules.specs.Steps.{target, motion_of, origin_of, origin_system}
 use Rattle.rules.specs.Arcs.{arc_move, plane_axes, centre, bad_arc}
 use Rattle.rules.specs.Commands.{commands}
-use Rattle.rules.specs.declared.Word.{Word}
+use Rattle.rules.specs.declared.Value.{Value}
 use Rattle.rules.specs.declared.Block.{Block}
 use Rattle.rules.specs.declared.Record.{Record}
 
@@ -44,8 +45,8 @@ doubled ws b = twice (other_letters ws) || twice (g_groups_of ws) || twice (m_gr
 -- for an arc move, an axis word of the plane and an offset word of the plane"
 unfoldable pub missing : Block → Record → Bool
 missing b r =
-    dwells b && not b.p.given
-    || sets_origin b && not (b.l.given && b.p.given)
+    dwells b && not (is_some b.p)
+    || sets_origin b && not (is_some b.l && is_some b.p)
     || (sets_offset b || machine b || moving_code b) && not (names_axis b)
     || arc_move b r && not (any_of (axis b) (plane_axes r.plane) && any_of (offset b) (plane_axes r.plane))
 
@@ -56,16 +57,18 @@ off_plane plane (i ∷ is) = cond (among i (plane_axes plane)) (off_plane plane 
 
 unfoldable pub idle : Block → Record → Bool
 idle b r =
-    b.p.given && not (dwells b || sets_origin b)
-    || b.l.given && not (sets_origin b)
+    is_some b.p && not (dwells b || sets_origin b)
+    || is_some b.l && not (sets_origin b)
     || any_of (offset b) (cond (arc_move b r) (off_plane r.plane all_axes) all_axes)
 
 -- 11: "F, S or G4's P below 0; T not whole 0–99; L not 2; G10's P not whole 1–9"
-abbrev pub below0 : Word → Bool
-below0 w = w.given && minus w.value.0
+abbrev pub below0 : Option Value → Bool
+below0 None = false
+below0 (Some v) = minus v.0
 
-abbrev pub outside : ℕ → ℕ → Word → Bool
-outside low high w = w.given && not (between low high (whole w.value.0))
+abbrev pub outside : ℕ → ℕ → Option Value → Bool
+outside low high None = false
+outside low high (Some v) = not (between low high (whole v.0))
 
 unfoldable pub wrong_word : Block → Bool
 wrong_word b =

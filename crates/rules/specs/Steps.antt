@@ -1,38 +1,39 @@
 -- What each word and code of a line does to the record, step by step in the order of document 01.
 -- Assumes nothing.
-use Rattle.std.specs.Prelude.{Bool, cond, ◌||◌, List, [], ◌∷◌, map, ℕ, zero, suc, ◌+◌, ◌*◌, eqb, length, set}
+use Rattle.std.specs.Prelude.{Bool, cond, ◌||◌, List, [], ◌∷◌, map, ℕ, zero, suc, ◌+◌, ◌*◌, eqb, length, set, is_some, unwrap_or}
+use Rattle.std.specs.Option.{option_map_or}
 use Rattle.rules.specs.Numbers.{whole, counted}
 use Rattle.rules.specs.Codes.{systems, system_number}
-use Rattle.rules.specs.Block.{axis, all_axes, has_one, or_else, moves, sets_origin, machine, sets_offset, zeroes_offset}
+use Rattle.rules.specs.Block.{amount, axis, all_axes, has_one, or_else, moves, sets_origin, machine, sets_offset, zeroes_offset}
 use Rattle.rules.specs.Reach.{converted, ◌plus◌, ◌less◌, nowhere, at}
 use Rattle.rules.specs.With.{with_position, with_origins, with_offset, with_motion, with_plane, with_distance, with_units, with_system, with_feed, with_speed, with_tool, with_spindle, with_coolant}
 use Rattle.rules.specs.declared.Length.{Length}
-use Rattle.rules.specs.declared.Word.{Word}
+use Rattle.rules.specs.declared.Value.{Value}
 use Rattle.rules.specs.declared.Block.{Block}
 use Rattle.rules.specs.declared.Record.{Record}
 
 -- "F (units in force before the line)"
 unfoldable pub feed_step : Block → Record → Record
-feed_step b r = with_feed (cond b.f.given (converted r.units b.f.value) r.feed) r
+feed_step b r = with_feed (option_map_or (converted r.units) b.f r.feed) r
 
 -- "S"
 unfoldable pub speed_step : Block → Record → Record
-speed_step b r = with_speed (cond b.s.given b.s.value r.speed) r
+speed_step b r = with_speed (unwrap_or b.s r.speed) r
 
 -- "T": the whole number that the value counts as
 unfoldable pub tool_step : Block → Record → Record
-tool_step b r = with_tool (cond b.t.given (counted (whole b.t.value.0)) r.tool) r
+tool_step b r = with_tool (option_map_or (λ v. counted (whole v.0)) b.t r.tool) r
 
 -- "M6 (spindle becomes 0)"
 unfoldable pub change_step : Block → Record → Record
-change_step b r = with_spindle (cond b.change.given 0 r.spindle) r
+change_step b r = with_spindle (cond (is_some b.change) 0 r.spindle) r
 
 -- "spindle 0 M5, 1 M3, 2 M4"
 abbrev pub spindle_of : ℕ → ℕ
 spindle_of m = cond (eqb m 3) 1 (cond (eqb m 4) 2 0)
 
 unfoldable pub spindle_step : Block → Record → Record
-spindle_step b r = with_spindle (cond b.spindle.given (spindle_of b.spindle.code) r.spindle) r
+spindle_step b r = with_spindle (option_map_or spindle_of b.spindle r.spindle) r
 
 -- "coolant 0 M9, 1 M7, 2 M8"
 abbrev pub coolant_of : ℕ → ℕ
@@ -43,7 +44,7 @@ abbrev pub coolant_with : ℕ → ℕ → ℕ
 coolant_with m old = cond (eqb m 7) (cond (eqb old 2 || eqb old 3) 3 1) (cond (eqb m 8) (cond (eqb old 1 || eqb old 3) 3 2) 0)
 
 unfoldable pub coolant_step : Block → Record → Record
-coolant_step b r = with_coolant (cond b.coolant.given (coolant_with b.coolant.code r.coolant) r.coolant) r
+coolant_step b r = with_coolant (option_map_or (λ m. coolant_with m r.coolant) b.coolant r.coolant) r
 
 -- "plane, units, system, distance"
 unfoldable pub plane_step : Block → Record → Record
@@ -58,9 +59,9 @@ system_step b r = with_system (or_else b.system r.system) r
 unfoldable pub distance_step : Block → Record → Record
 distance_step b r = with_distance (or_else b.distance r.distance) r
 
--- a word of the line as a length, in the units in force
-abbrev pub long : Record → Word → Length
-long r w = converted r.units w.value
+-- a word's value as a length, in the units in force
+abbrev pub long : Record → Value → Length
+long r v = converted r.units v
 
 -- where axis i of system n (1–9) stands among the origins. Number 0 is no system and has no origin: its place lies past the last,
 -- where nothing is read and nothing can be set
@@ -77,11 +78,11 @@ origin r i = at r.origins (origin_place (system_number r.system) i)
 
 -- "G10 L2 Pn sets named axes of origin n (1–9)"
 abbrev pub origin_system : Block → ℕ
-origin_system b = counted (whole b.p.value.0)
+origin_system b = counted (whole (amount b.p).0)
 
 -- a named axis takes its word, the others keep what they have
 abbrev pub named : Block → Record → ℕ → Length → Length
-named b r i old = cond (axis b i).given (long r (axis b i)) old
+named b r i old = option_map_or (long r) (axis b i) old
 
 -- the origins with the named axes of system P set, axis after axis
 abbrev pub origins_set : Block → Record → List ℕ → List Length → List Length
@@ -93,7 +94,7 @@ origin_step b r = with_origins (cond (sets_origin b) (origins_set b r all_axes r
 
 -- "G92 sets, for named axes, offset = position − origin − word. G92.1 zeroes the offset"
 abbrev pub offset_at : Block → Record → ℕ → Length
-offset_at b r i = cond (axis b i).given ((at r.position i less origin r i) less long r (axis b i)) (at r.offset i)
+offset_at b r i = option_map_or (λ v. (at r.position i less origin r i) less long r v) (axis b i) (at r.offset i)
 
 -- no offset on any axis
 abbrev pub no_offset : List Length
@@ -103,13 +104,14 @@ unfoldable pub offset_step : Block → Record → Record
 offset_step b r = with_offset (cond (sets_offset b) (map (offset_at b r) all_axes) (cond (zeroes_offset b) no_offset r.offset)) r
 
 -- "Target: word + origin + G92 offset; under G91 position + word; with G53 the word alone, G91 or not. Axes not named stay"
+abbrev pub goes_by : Block → Record → ℕ → Value → Length
+goes_by b r i v =
+    cond (machine b) (long r v)
+    (cond (eqb r.distance 910) (at r.position i plus long r v)
+    ((long r v plus origin r i) plus at r.offset i))
+
 abbrev pub target_at : Block → Record → ℕ → Length
-target_at b r i =
-    cond (axis b i).given
-    (cond (machine b) (long r (axis b i))
-    (cond (eqb r.distance 910) (at r.position i plus long r (axis b i))
-    ((long r (axis b i) plus origin r i) plus at r.offset i)))
-    (at r.position i)
+target_at b r i = option_map_or (goes_by b r i) (axis b i) (at r.position i)
 
 unfoldable pub target : Block → Record → List Length
 target b r = map (target_at b r) all_axes

@@ -2,6 +2,9 @@
 // Arrays by axis go X, Y, Z.
 #![tactic(auto)]
 
+ghost use Rattle.std.specs.Prelude.{◌≡◌};
+ghost use Rattle.rules.specs.Named.{refusal_number};
+
 // A whole number of ten-thousandths of a program unit.
 #[derive(Clone, Copy)]
 pub struct Value(pub i64);
@@ -10,26 +13,54 @@ pub struct Value(pub i64);
 #[derive(Clone, Copy)]
 pub struct Length(pub i64);
 
-// What a value comes to when it is worked out: the value, or the number, 5 to 7, that refuses the line.
-#[derive(Clone, Copy)]
-pub enum Worked {
-    Good(Value),
-    Bad(u8),
+// Why a line is refused. Each refusal is as long known by its number as by its name; the number is the order in which they are asked.
+#[derive(Clone, Copy, PartialEq, Eq)]
+pub enum Refusal {
+    // The table has not 5,000 entries, or a field of the record is out of its range.
+    Disorder = 1,
+    // More than 256 bytes.
+    LongLine = 2,
+    // No derivation.
+    WrongForm = 3,
+    // Kept in the list; no line is refused with it.
+    FineNumber = 4,
+    // A value written, worked out or read from the table is out of range.
+    OutOfRange = 5,
+    // The divisor of `/` or MOD is zero.
+    ZeroDivisor = 6,
+    // A parameter number is not 1 to 4,999.
+    NoParameter = 7,
+    // A code is not served.
+    NotServed = 8,
+    // A letter or a group stands twice, or G0 to G3 beside G10 or G92.
+    Doubled = 9,
+    // A needed word is missing, or a word is idle.
+    MissingOrIdle = 10,
+    // A word has a value that it cannot have.
+    WrongWord = 11,
+    // The mode of motion does not allow it, or the feed is 0.
+    WrongMode = 12,
+    // A target, centre, origin or offset is out of reach.
+    TooFar = 13,
+    // An arc starts at its centre, or its radii differ too much.
+    BadArc = 14,
+    // The output is shorter than the commands.
+    NoRoom = 15,
+    // A value nests deeper than 24.
+    TooDeep = 16,
 }
 
-// The whole number, of units or of tenths, that a value counts as, where it is near enough to one.
-#[derive(Clone, Copy)]
-pub enum Near {
-    To(i64),
-    Nothing,
+impl Refusal {
+    // The number by which the rules, the frames and C know it.
+    pub fn number(self) -> u8
+        ensures { result ≡ refusal_number self }
+    {
+        self as u8
+    }
 }
 
-// The parameter that a value names: its number, 1 to 4,999, or none.
-#[derive(Clone, Copy)]
-pub enum Parameter {
-    Number(usize),
-    Outside,
-}
+// What a value comes to when it is worked out: the value, or why the line is refused.
+pub type Worked = Result<Value, Refusal>;
 
 // What a session keeps from line to line. A mode is ten times its code: motion 800 is G80, system
 // 591 is G59.1. Origins stand one after the other: the axes of G54, the axes of G55, and so on.
@@ -50,40 +81,27 @@ pub struct Record {
     pub coolant: u8,
 }
 
-// A word of the line, or none: then its value is 0.
-#[derive(Clone, Copy)]
-pub struct Word {
-    pub given: bool,
-    pub value: Value,
-}
-
-// A code of the line, or none: then it is 0. Ten times the code for G, the code itself for M.
-#[derive(Clone, Copy)]
-pub struct Code {
-    pub given: bool,
-    pub code: u16,
-}
-
-// A line's words by letter and its codes by group, in whatever order they were written.
+// A line's words by letter and its codes by group, in whatever order they were written. A code is ten
+// times the code for G, the code itself for M.
 #[derive(Clone, Copy)]
 pub struct Block {
-    pub axes: [Word; 3],
-    pub offsets: [Word; 3],
-    pub f: Word,
-    pub s: Word,
-    pub t: Word,
-    pub l: Word,
-    pub p: Word,
-    pub once: Code,
-    pub motion: Code,
-    pub plane: Code,
-    pub distance: Code,
-    pub units: Code,
-    pub system: Code,
-    pub stop: Code,
-    pub change: Code,
-    pub spindle: Code,
-    pub coolant: Code,
+    pub axes: [Option<Value>; 3],
+    pub offsets: [Option<Value>; 3],
+    pub f: Option<Value>,
+    pub s: Option<Value>,
+    pub t: Option<Value>,
+    pub l: Option<Value>,
+    pub p: Option<Value>,
+    pub once: Option<u16>,
+    pub motion: Option<u16>,
+    pub plane: Option<u16>,
+    pub distance: Option<u16>,
+    pub units: Option<u16>,
+    pub system: Option<u16>,
+    pub stop: Option<u16>,
+    pub change: Option<u16>,
+    pub spindle: Option<u16>,
+    pub coolant: Option<u16>,
 }
 
 // Eight numbers: the kind and its seven fields.
@@ -93,11 +111,11 @@ pub struct Command {
     pub fields: [i64; 7],
 }
 
-// What a line is answered with: accepted with its number of commands, refused with its number, or skipped.
+// What a line is answered with: accepted with its number of commands, refused, or skipped.
 #[derive(Clone, Copy)]
 pub enum Answer {
     Accepted(u64),
-    Refused(u8),
+    Refused(Refusal),
     Skipped,
 }
 

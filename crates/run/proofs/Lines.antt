@@ -3,13 +3,12 @@
 use mathlib.Core.Path.{◌≡◌, refl, sym, ap, subst, ◌∙◌}
 use mathlib.Core.Bool.{Bool, true, false, cond}
 use mathlib.Core.List.{List, [], ◌∷◌, ◌++◌}
-use Prim.Native.Nat.{ℕ, suc, ◌+◌, ◌-◌, ◌≤◌, ◌<◌}
+use Prim.Native.Nat.{ℕ, suc, ◌+◌, ◌≤◌, ◌<◌}
 use native.Mathlib.Omega.{arith}
-use borrow.Author.Tests.{eq-eqb, ne_eqb, lt-ltb}
+use borrow.Author.Tests.{lt-ltb}
 use lib.Dec.{eqb}
 use lib.IntN.{ℤ, pos}
-use lib.ListN.{length, take, get_or, length-append, replicate}
-use lib.Seq.{take-suc}
+use lib.ListN.{length, length-append, replicate}
 use Rattle.grammar.specs.Bytes.{byte}
 use Rattle.grammar.specs.Grammar.{Line}
 use Rattle.grammar.specs.Derivation.{Form}
@@ -19,6 +18,7 @@ use Rattle.rules.specs.Block.{block_of}
 use Rattle.rules.specs.Refusals.{first}
 use Rattle.rules.specs.Promise.{After, answer_to, numbers, by_number, taken, place_in, underived, leaving, disorder}
 use Rattle.rules.specs.Frames.{without_return, cut, onward, refusal_frame, frames_from}
+use Rattle.rules.specs.Named.{refusal_number, refusal_of}
 use Rattle.rules.specs.declared.Record.{Record}
 use Rattle.rules.specs.declared.Block.{Block}
 use Rattle.rules.specs.declared.Answer.TheVariants.{Refused}
@@ -27,29 +27,7 @@ pub cut_byte : (l : List ℕ) (b : ℕ) (s : List ℕ) → cut l (b ∷ s) ≡ c
 cut_byte [] b s = refl
 cut_byte (c ∷ l) b s = refl
 
--- ---- a carriage return that stands last is dropped, and no other byte is
-last_return : (l : List ℕ) (b : ℕ) → b ≡ byte "\r" → without_return (l ++ b ∷ []) ≡ l
-last_return [] b e = rw (eq-eqb b (byte "\r") e)
-last_return (c ∷ []) b e = ap (λ (t : List ℕ). c ∷ t) (last_return [] b e)
-last_return (c ∷ d ∷ l) b e = ap (λ (t : List ℕ). c ∷ t) (last_return (d ∷ l) b e)
-
-last_other : (l : List ℕ) (b : ℕ) → (b ≡ byte "\r" → ⊥) → without_return (l ++ b ∷ []) ≡ l ++ b ∷ []
-last_other [] b e = rw (ne_eqb b (byte "\r") e)
-last_other (c ∷ []) b e = ap (λ (t : List ℕ). c ∷ t) (last_other [] b e)
-last_other (c ∷ d ∷ l) b e = ap (λ (t : List ℕ). c ∷ t) (last_other (d ∷ l) b e)
-
-module _ (s : List ℕ) (held : ℕ) (low : 0 < held) (high : held ≤ length s) where
-  last_byte : take held s ≡ take (held - 1) s ++ get_or s (held - 1) 0 ∷ []
-  last_byte =
-      let p : held ≡ suc (held - 1) = omega arith in
-      ap (λ (k : ℕ). take k s) p ∙ take-suc s (held - 1) 0 (omega arith)
-
-  pub return_dropped : get_or s (held - 1) 0 ≡ byte "\r" → take (held - 1) s ≡ without_return (take held s)
-  return_dropped e = sym (ap without_return last_byte ∙ last_return (take (held - 1) s) (get_or s (held - 1) 0) e)
-
-  pub nothing_dropped : (get_or s (held - 1) 0 ≡ byte "\r" → ⊥) → take held s ≡ without_return (take held s)
-  nothing_dropped e = sym (ap without_return last_byte ∙ last_other (take (held - 1) s) (get_or s (held - 1) 0) e ∙ sym last_byte)
-
+-- ---- a carriage return
 -- at most one byte is dropped
 return_long : (l : List ℕ) → length l ≤ length (without_return l) + 1
 return_long [] = omega arith
@@ -85,17 +63,22 @@ long_number : (wrong : Bool) (e : Contents Entry) (b : Block) (l : List ℕ) (sw
 long_number wrong e b l switch r table room h = rw (lt-ltb 256 (length l) h)
 
 long_refused : (f : Form (Contents Entry)) (l : List ℕ) (switch : Bool) (r : Record) (table out : List ℤ) → 256 < length l
-    → answer_to f l switch r table out ≡ leaving (Refused (cond (disorder r table) 1 2)) r table out
+    → answer_to f l switch r table out ≡ leaving (Refused (refusal_of (cond (disorder r table) 1 2))) r table out
 unfolding answer_to
 long_refused f l switch r table out h =
     ap (λ (n : ℕ). by_number n (place_in f) (taken f) (block_of (words (taken f).entries)) r table out) (long_number (underived f) (taken f) (block_of (words (taken f).entries)) l switch r table (length out) h)
     ∙ by (disorder r table) (place_in f) (taken f) (block_of (words (taken f).entries))
   where
-    by : (t : Bool) (place : ℕ) (e : Contents Entry) (b : Block) → by_number (cond t 1 2) place e b r table out ≡ leaving (Refused (cond t 1 2)) r table out
+    by : (t : Bool) (place : ℕ) (e : Contents Entry) (b : Block) → by_number (cond t 1 2) place e b r table out ≡ leaving (Refused (refusal_of (cond t 1 2))) r table out
     by true place e b = refl
     by false place e b = refl
+
+numbered : (t : Bool) → refusal_number (refusal_of (cond t 1 2)) ≡ cond t 1 2
+numbered true = refl
+numbered false = refl
 
 pub long_written : (tree : List ℕ → Form Line) (l : List ℕ) (ls : List (List ℕ)) (r : Record) (table : List ℤ) → 256 < length l
     → frames_from tree (l ∷ ls) r table ≡ refusal_frame (cond (disorder r table) 1 2)
 long_written tree l ls r table h =
     ap (λ (a : After). onward a.outcome.answer a.out (frames_from tree ls a.outcome.rec a.table)) (long_refused (reading table (tree l)) l false r table (replicate 8000 (pos 0)) h)
+    ∙ ap refusal_frame (numbered (disorder r table))

@@ -9,6 +9,7 @@ use lib.Dec.{T, eqb, leb, ltb, leb→le, ltb→lt, lt→ltb, eqb→eq}
 use lib.IntN.{ℤ, pos, negsuc}
 use lib.ListN.{length, get_or}
 use borrow.Author.Tests.{eq-eqb, ne_eqb, eqb-true, eqb-false}
+use Rattle.std.specs.Prelude.{Option, None, Some, unwrap_or}
 use Rattle.laws.proofs.Bools.{and_left, and_right, or_cases}
 use Rattle.grammar.specs.Bytes.{bytes, among, all}
 use Rattle.grammar.specs.Grammar.{letter}
@@ -16,12 +17,9 @@ use Rattle.rules.specs.Numbers.{whole, tenth}
 use Rattle.rules.specs.Meaning.{Said}
 use Rattle.rules.specs.Codes.{Group, listed_in, g_groups, m_groups, g_group, m_group, g_code, m_code, group_of, code_up_to}
 use Rattle.rules.specs.Codes.Group.{◌holds◌}
-use Rattle.rules.specs.Block.{word, codes, of_group, twice, other_letters, g_codes, m_codes}
+use Rattle.rules.specs.Block.{amount, word, codes, of_group, twice, other_letters, g_codes, m_codes}
 use Rattle.rules.specs.Refusals.{g_groups_of, m_groups_of}
-use Rattle.rules.specs.declared.Near.{Near}
-use Rattle.rules.specs.declared.Near.TheVariants.{To, Nothing}
-use Rattle.rules.specs.declared.Word.{Word}
-use Rattle.rules.specs.declared.Code.{Code}
+use Rattle.rules.specs.declared.Value.{Value}
 use Rattle.summary.specs.declared.words.Entry.{Entry}
 use Rattle.summary.specs.Words.{lettered}
 use Rattle.summary.specs.Keys.{code_entry, entry_of, first, code_in, is_code}
@@ -97,18 +95,15 @@ listed ((g holds cs) ∷ gs) t code = go (among code cs) (listed gs (and_right (
     go true h = and_left (grouped g) (numbered gs) t
     go false h = h
 
-of_code : (group : ℕ → ℕ) → ((code : ℕ) → T (grouped (group code))) → (c : Code) → T (grouped (group_of group c))
-of_code group h c = go c.given
-  where
-    go : (given : Bool) → T (grouped (cond given (group c.code) 255))
-    go true = h c.code
-    go false = tt
+of_code : (group : ℕ → ℕ) → ((code : ℕ) → T (grouped (group code))) → (c : Option ℕ) → T (grouped (group_of group c))
+of_code group h None = tt
+of_code group h (Some c) = h c
 
-g_grouped : (c : Code) → T (grouped (group_of g_group c))
+g_grouped : (c : Option ℕ) → T (grouped (group_of g_group c))
 unfolding g_group
 g_grouped c = of_code g_group (listed g_groups tt) c
 
-m_grouped : (c : Code) → T (grouped (group_of m_group c))
+m_grouped : (c : Option ℕ) → T (grouped (group_of m_group c))
 unfolding m_group
 m_grouped c = of_code m_group (listed m_groups tt) c
 
@@ -135,9 +130,9 @@ m_key w g t =
     (λ l k. rw (ne_eqb w.letter 77 k) (ne_eqb (w.letter % 32) (48 + g % 16) (λ e. omega arith)))
 
 -- ---- the codes after a letter, filed from a base on
-module _ (initial base : ℕ) (code : ℤ → Code) (group : ℕ → ℕ)
+module _ (initial base : ℕ) (code : ℤ → Option ℕ) (group : ℕ → ℕ)
     (key-is : (w : Said) (g : ℕ) → T (grouped g) → eqb (entry_of w).key (base + g % 16) ≡ (eqb w.letter initial && eqb (group_of group (code w.value)) g))
-    (value_is : (w : Said) → w.letter ≡ initial → (entry_of w).value ≡ pos (code w.value).code) where
+    (value_is : (w : Said) → w.letter ≡ initial → (entry_of w).value ≡ pos (unwrap_or (code w.value) 0)) where
   among_groups : (g : ℕ) → T (grouped g) → (ws : List Said) → among (base + g % 16) (keys (entries ws)) ≡ among g (map (group_of group) (codes initial code ws))
   among_groups g t [] = refl
   among_groups g t (w ∷ ws) =
@@ -149,31 +144,28 @@ module _ (initial base : ℕ) (code : ℤ → Code) (group : ℕ → ℕ)
       go false = refl
 
   -- a code of a group that is served is a code
-  served : (c : Code) (g : ℕ) → (g ≡ 255 → ⊥) → group_of group c ≡ g → record { given = true; code = c.code } ≡ c
-  served c g n e = go c.given refl
-    where
-      go : (b : Bool) → c.given ≡ b → record { given = true; code = c.code } ≡ c
-      go true d = λ i. record { given = sym d i; code = c.code }
-      go false d = absurd (n (sym e ∙ ap (λ (b : Bool). cond b (group c.code) 255) d))
+  served : (c : Option ℕ) (g : ℕ) → (g ≡ 255 → ⊥) → group_of group c ≡ g → Some (unwrap_or c 0) ≡ c
+  served None g n e = absurd (n (sym e))
+  served (Some c) g n e = refl
 
   code_filed : (g : ℕ) → T (grouped g) → (g ≡ 255 → ⊥) → (ws : List Said) → code_in (first (base + g % 16) (entries ws)) ≡ of_group group g (codes initial code ws)
   code_filed g t n [] = refl
-  code_filed g t n (w ∷ ws) = ap (λ (b : Bool). code_in (cond b (record { given = true; value = record { 0 = (entry_of w).value } }) (first (base + g % 16) (entries ws)))) (key-is w g t) ∙ go (code_filed g t n ws) (eqb w.letter initial) refl (eqb (group_of group c) g) refl
+  code_filed g t n (w ∷ ws) = ap (λ (b : Bool). code_in (cond b (Some (record { 0 = (entry_of w).value })) (first (base + g % 16) (entries ws)))) (key-is w g t) ∙ go (code_filed g t n ws) (eqb w.letter initial) refl (eqb (group_of group c) g) refl
     where
-      c : Code
+      c : Option ℕ
       c = code w.value
 
       go : code_in (first (base + g % 16) (entries ws)) ≡ of_group group g (codes initial code ws) → (a : Bool) → eqb w.letter initial ≡ a → (b : Bool) → eqb (group_of group c) g ≡ b →
-          code_in (cond (a && b) (record { given = true; value = record { 0 = (entry_of w).value } }) (first (base + g % 16) (entries ws))) ≡ of_group group g (cond a (c ∷ codes initial code ws) (codes initial code ws))
+          code_in (cond (a && b) (Some (record { 0 = (entry_of w).value })) (first (base + g % 16) (entries ws))) ≡ of_group group g (cond a (c ∷ codes initial code ws) (codes initial code ws))
       go r true p true q = rw (value_is w (eqb-true w.letter initial p), q) (served c g n (eqb-true (group_of group c) g q))
       go r true p false q = rw q r
       go r false p b q = r
 
-g_value : (w : Said) → w.letter ≡ 71 → (entry_of w).value ≡ pos (g_code w.value).code
-g_value w l = by_letter (λ (e : Entry). e.value ≡ pos (g_code w.value).code) w (λ k. refl) (λ k. absurd (omega arith)) (λ f k. absurd (f l))
+g_value : (w : Said) → w.letter ≡ 71 → (entry_of w).value ≡ pos (unwrap_or (g_code w.value) 0)
+g_value w l = by_letter (λ (e : Entry). e.value ≡ pos (unwrap_or (g_code w.value) 0)) w (λ k. refl) (λ k. absurd (omega arith)) (λ f k. absurd (f l))
 
-m_value : (w : Said) → w.letter ≡ 77 → (entry_of w).value ≡ pos (m_code w.value).code
-m_value w l = by_letter (λ (e : Entry). e.value ≡ pos (m_code w.value).code) w (λ k. absurd (omega arith)) (λ k. refl) (λ f k. absurd (k l))
+m_value : (w : Said) → w.letter ≡ 77 → (entry_of w).value ≡ pos (unwrap_or (m_code w.value) 0)
+m_value w l = by_letter (λ (e : Entry). e.value ≡ pos (unwrap_or (m_code w.value) 0)) w (λ k. absurd (omega arith)) (λ k. refl) (λ f k. absurd (k l))
 
 pub g_among : (g : ℕ) → T (grouped g) → (ws : List Said) → among (32 + g % 16) (keys (entries ws)) ≡ among g (g_groups_of ws)
 unfolding g_codes
@@ -241,10 +233,10 @@ module _ (b : ℕ) (p : Plain b) where
   word_filed : (ws : List Said) → AllLettered ws → first (b % 32) (entries ws) ≡ word b ws
   word_filed [] t = refl
   word_filed (w ∷ ws) t =
-      ap₂ (λ (c : Bool) (v : Word). cond c (record { given = true; value = record { 0 = (entry_of w).value } }) v) (plain_key w (and_left (letter w.letter) _ t) b p) (word_filed ws (and_right (letter w.letter) _ t))
+      ap₂ (λ (c : Bool) (v : Option Value). cond c (Some (record { 0 = (entry_of w).value })) v) (plain_key w (and_left (letter w.letter) _ t) b p) (word_filed ws (and_right (letter w.letter) _ t))
       ∙ go (eqb w.letter b) refl
     where
-      go : (c : Bool) → eqb w.letter b ≡ c → cond c (record { given = true; value = record { 0 = (entry_of w).value } }) (word b ws) ≡ cond c (record { given = true; value = record { 0 = w.value } }) (word b ws)
+      go : (c : Bool) → eqb w.letter b ≡ c → cond c (Some (record { 0 = (entry_of w).value })) (word b ws) ≡ cond c (Some (record { 0 = w.value })) (word b ws)
       go true e = rw (plain_value w (subst Plain (sym (eqb-true w.letter b e)) p)) refl
       go false e = refl
 
@@ -295,24 +287,24 @@ keys_twice (w ∷ ws) t =
     third false x y z = refl
 
 -- ---- what is filed at the keys of groups is a code
-up_to : (last : ℕ) (n : Near) → (code_up_to last n).code ≤ last
-up_to last Nothing = omega arith
-up_to last (To (negsuc k)) = omega arith
-up_to last (To (pos k)) = go (leb 0 k && leb k last) refl
+up_to : (last : ℕ) (n : Option ℤ) → unwrap_or (code_up_to last n) 0 ≤ last
+up_to last None = omega arith
+up_to last (Some (negsuc k)) = omega arith
+up_to last (Some (pos k)) = go (leb 0 k && leb k last) refl
   where
-    go : (b : Bool) → (leb 0 k && leb k last) ≡ b → (cond {A = Code} b (record { given = true; code = k }) (record { given = false; code = 0 })).code ≤ last
+    go : (b : Bool) → (leb 0 k && leb k last) ≡ b → unwrap_or (cond b (Some k) None) 0 ≤ last
     go true e = leb→le k last (and_right (leb 0 k) (leb k last) (subst T (sym e) tt))
     go false e = omega arith
 
-pub codes_filed : (k : ℕ) → 32 ≤ k → (ws : List Said) → T (is_code (first k (entries ws)).value.0)
+pub codes_filed : (k : ℕ) → 32 ≤ k → (ws : List Said) → T (is_code (amount (first k (entries ws))).0)
 unfolding g_code m_code
 codes_filed k h [] = tt
 codes_filed k h (w ∷ ws) =
-    by_letter (λ (e : Entry). T (is_code (cond {A = Word} (eqb e.key k) (record { given = true; value = record { 0 = e.value } }) (first k (entries ws))).value.0)) w
-    (λ l. either (codes_filed k h ws) (eqb (32 + group_of g_group (g_code w.value) % 16) k) (g_code w.value).code (omega (arith, up_to 999 (tenth w.value))))
-    (λ l. either (codes_filed k h ws) (eqb (48 + group_of m_group (m_code w.value) % 16) k) (m_code w.value).code (omega (arith, up_to 99 (whole w.value))))
+    by_letter (λ (e : Entry). T (is_code (amount (cond (eqb e.key k) (Some (record { 0 = e.value })) (first k (entries ws)))).0)) w
+    (λ l. either (codes_filed k h ws) (eqb (32 + group_of g_group (g_code w.value) % 16) k) (unwrap_or (g_code w.value) 0) (omega (arith, up_to 999 (tenth w.value))))
+    (λ l. either (codes_filed k h ws) (eqb (48 + group_of m_group (m_code w.value) % 16) k) (unwrap_or (m_code w.value) 0) (omega (arith, up_to 99 (whole w.value))))
     (λ l g. rw (ne_eqb (w.letter % 32) k (λ e. omega arith)) (codes_filed k h ws))
   where
-    either : T (is_code (first k (entries ws)).value.0) → (b : Bool) (n : ℕ) → n < 1000 → T (is_code (cond {A = Word} b (record { given = true; value = record { 0 = pos n } }) (first k (entries ws))).value.0)
+    either : T (is_code (amount (first k (entries ws))).0) → (b : Bool) (n : ℕ) → n < 1000 → T (is_code (amount (cond b (Some (record { 0 = pos n })) (first k (entries ws)))).0)
     either r true n g = lt→ltb n 1000 g
     either r false n g = r

@@ -1,6 +1,5 @@
 pub mod Held
 pub mod Mask
-pub mod Keys
 pub mod Entries
 pub mod Kept
 pub mod Summed

@@ -1,32 +1,33 @@
 -- What is held when all words are passed is the summary of the words.
 -- Assumes nothing.
-use mathlib.Core.Path.{◌≡◌, ap, ap₂, ◌∙◌}
-use mathlib.Core.Bool.{◌||◌}
+use mathlib.Core.Path.{◌≡◌, sym, subst, ap, ap₂, ◌∙◌}
+use mathlib.Core.Bool.{◌&&◌, ◌||◌}
 use mathlib.Core.List.{List, [], ◌∷◌}
 use Prim.Native.Nat.{ℕ, ◌+◌, ◌%◌}
 use lib.Dec.{T, ltb}
 use lib.Count.{ones}
-use lib.IntN.{ℤ}
+use Rattle.std.specs.Prelude.{Option}
 use Rattle.rules.specs.Meaning.{Said}
-use Rattle.rules.specs.Block.{word, g_of, m_of, block_of}
-use Rattle.rules.specs.Refusals.{unserved, doubled}
-use Rattle.rules.specs.declared.Word.{Word}
+use Rattle.rules.specs.Block.{amount, word, g_of, m_of, block_of, sets_offset, sets_origin}
+use Rattle.rules.specs.Refusals.{moving_code, unserved, doubled}
+use Rattle.rules.specs.declared.Value.{Value}
+use Rattle.summary.specs.declared.filing.Filed.{Filed}
 use Rattle.summary.specs.Words.{summary_of}
-use Rattle.summary.specs.Keys.{seen, slot, code_in, CodesIn, block_by, claimed, summary_by}
+use Rattle.summary.specs.Keys.{seen, slot, code_in, CodesIn, is_code, block_by, summary_by}
 use Rattle.summary.proofs.Held.{AllLettered}
 use Rattle.summary.proofs.Entries.{entries, g_among, m_among, g_filed, m_filed, is_plain, letter_filed, keys_twice, codes_filed}
-use Rattle.summary.proofs.Kept.{Kept, held_first, seen_among, ones_fewer}
+use Rattle.summary.proofs.Kept.{Kept, slot_first, seen_among, ones_fewer}
 
-module _ (ws : List Said) {mask number : ℕ} {held : List ℤ} (f : Kept (entries ws) [] mask number held) where
-  pub codes_in : CodesIn held
-  codes_in = record { codes = λ k h. rw (ap (λ (w : Word). w.value.0) (held_first f k)) (codes_filed k h ws) }
+module _ (ws : List Said) {number : ℕ} {filed : Filed} (f : Kept (entries ws) [] number filed) where
+  pub codes_in : CodesIn filed
+  codes_in = record { codes = λ k h s. rw s at (subst (λ (w : Option Value). T (is_code (amount w).0)) (sym (slot_first f k)) (codes_filed k h ws)) }
 
-  unserved_is : (seen mask 47 || seen mask 63) ≡ unserved ws
+  unserved_is : (seen filed.mask 47 || seen filed.mask 63) ≡ unserved ws
   unfolding unserved
   unserved_is = ap₂ ◌||◌ (seen_among f 47 ∙ g_among 255 tt ws) (seen_among f 63 ∙ m_among 255 tt ws)
 
   module _ (t : AllLettered ws) where
-    block_is : block_by (slot mask held) ≡ block_of ws
+    block_is : block_by (slot filed) ≡ block_of ws
     unfolding block_of
     block_is = λ i. record {
       axes = at 88 tt i ∷ at 89 tt i ∷ at 90 tt i ∷ [];
@@ -48,19 +49,19 @@ module _ (ws : List Said) {mask number : ℕ} {held : List ℤ} (f : Kept (entri
       coolant = ms 8 tt i;
     }
       where
-        at : (b : ℕ) → T (is_plain b) → slot mask held (b % 32) ≡ word b ws
-        at b p = held_first f (b % 32) ∙ letter_filed b p ws t
+        at : (b : ℕ) → T (is_plain b) → slot filed (b % 32) ≡ word b ws
+        at b p = slot_first f (b % 32) ∙ letter_filed b p ws t
 
-        gs : (g : ℕ) → T (ltb g 15) → code_in (slot mask held (32 + g % 16)) ≡ g_of g ws
-        gs g p = ap code_in (held_first f (32 + g % 16)) ∙ g_filed g p ws
+        gs : (g : ℕ) → T (ltb g 15) → code_in (slot filed (32 + g % 16)) ≡ g_of g ws
+        gs g p = ap code_in (slot_first f (32 + g % 16)) ∙ g_filed g p ws
 
-        ms : (g : ℕ) → T (ltb g 15) → code_in (slot mask held (48 + g % 16)) ≡ m_of g ws
-        ms g p = ap code_in (held_first f (48 + g % 16)) ∙ m_filed g p ws
+        ms : (g : ℕ) → T (ltb g 15) → code_in (slot filed (48 + g % 16)) ≡ m_of g ws
+        ms g p = ap code_in (slot_first f (48 + g % 16)) ∙ m_filed g p ws
 
-    pub summary_is : summary_by (slot mask held) (ltb (ones mask) number) ≡ summary_of ws
+    pub summary_is : summary_by filed (ltb (ones filed.mask) number) ≡ summary_of ws
     unfolding doubled
     summary_is = λ i. record {
       block = block_is i;
       unserved = unserved_is i;
-      doubled = (ones_fewer f ∙ keys_twice ws t) i || claimed (block_is i).motion (block_is i).once;
+      doubled = (ones_fewer f ∙ keys_twice ws t) i || moving_code (block_is i) && (sets_origin (block_is i) || sets_offset (block_is i));
     }

@@ -7,7 +7,9 @@ mod words;
 ghost use Rattle.std.specs.Prelude.{◌≡◌, length, take};
 ghost use Rattle.summary.specs.Words.{said, lettered, summary_of};
 
+use filing::Filed;
 use rules::Block;
+use text::bytes::is_letter;
 
 // What numbers 8 and 9 ask is beside the block: a code is not served; something stands twice.
 #[derive(Clone, Copy)]
@@ -21,10 +23,8 @@ pub struct Summary {
 pub fn summarize(letters: &[u8], values: &[i64], count: usize) -> Summary
     ensures { result ≡ summary_of (lettered (said (take count letters.now) (take count values.now))) }
 {
-    let number = words::number(letters, values, count);
-    let letters = &letters[..number];
-    let values = &values[..number];
-    one_pass(letters, values)
+    let number = count.min(letters.len()).min(values.len());
+    one_pass(&letters[..number], &values[..number])
 }
 
 // Each word is looked at once, and each code's group is looked up once: the first word of a key is kept.
@@ -32,19 +32,16 @@ fn one_pass(letters: &[u8], values: &[i64]) -> Summary
     requires { length letters.now ≡ length values.now }
     ensures { result ≡ summary_of (lettered (said letters.now values.now)) }
 {
-    let mut held = [0i64; 64];
-    let mut mask: u64 = 0;
+    let mut filed = Filed {
+        mask: 0,
+        held: [0; 64],
+    };
     let mut number: usize = 0;
-    let mut i = 0;
-    while i < letters.len() {
-        let letter = letters[i];
-        if words::is_letter(letter) {
-            let entry = words::entry_of(letter, values[i]);
-            mask = filing::keep(mask, &mut held, entry);
+    for i in 0..letters.len() {
+        if is_letter(letters[i]) {
+            filed.keep(words::entry_of(letters[i], values[i]));
             number += 1;
         }
-        i += 1;
     }
-    let fewer = (u64::count_ones(mask) as usize) < number;
-    filing::summary_of(mask, &held, fewer)
+    filed.summary(number)
 }

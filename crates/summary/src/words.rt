@@ -1,57 +1,15 @@
-// The words of a line, held side by side in two slices, and what is kept of each.
-ghost use Rattle.std.specs.Prelude.{◌≡◌, cond, ◌<◌, min, length, take};
-ghost use Rattle.grammar.specs.Grammar.{letter};
+// A word of a line, as it is filed.
+ghost use Rattle.std.specs.Prelude.{◌≡◌, ◌<◌, unwrap_or};
 ghost use Rattle.rules.specs.Codes.{not_served};
-ghost use Rattle.summary.specs.Words.{said};
 ghost use Rattle.summary.specs.Keys.{entry_of, code_entry};
 
-use rules::{Code, Value};
+use rules::Value;
 
 // A word by its key: the value of a word, the code of a code. Keys of letters are below 32, those of G groups from 32 and those of M groups from 48.
 #[derive(Clone, Copy)]
 pub(crate) struct Entry {
     pub key: u8,
     pub value: i64,
-}
-
-// How many words the first `count` places of the two slices hold.
-pub(crate) fn number(letters: &[u8], values: &[i64], count: usize) -> usize
-    ensures { result ≡ length (said (take count letters.now) (take count values.now)) }
-{
-    if values.len() < letters.len() {
-        return least(count, values.len());
-    }
-    least(count, letters.len())
-}
-
-fn least(a: usize, b: usize) -> usize
-    ensures { result ≡ min a b }
-{
-    if a < b {
-        return a;
-    }
-    b
-}
-
-pub(crate) fn is_letter(byte: u8) -> bool
-    ensures { result ≡ letter byte }
-{
-    match byte {
-        b'F' => true,
-        b'G' => true,
-        b'I' => true,
-        b'J' => true,
-        b'K' => true,
-        b'L' => true,
-        b'M' => true,
-        b'P' => true,
-        b'S' => true,
-        b'T' => true,
-        b'X' => true,
-        b'Y' => true,
-        b'Z' => true,
-        _ => false,
-    }
 }
 
 // The code's group is looked up here, once.
@@ -61,11 +19,11 @@ pub(crate) fn entry_of(letter: u8, value: i64) -> Entry
     match letter {
         b'G' => {
             let code = codes::g_code(Value(value));
-            code_entry(32, codes::g_group(code.code), code)
+            code_entry(32, code, code.and_then(|code| codes::g_group(code)))
         }
         b'M' => {
             let code = codes::m_code(Value(value));
-            code_entry(48, codes::m_group(code.code), code)
+            code_entry(48, code, code.and_then(|code| codes::m_group(code)))
         }
         _ => Entry {
             key: letter % 32,
@@ -74,19 +32,13 @@ pub(crate) fn entry_of(letter: u8, value: i64) -> Entry
     }
 }
 
-// 15 is the key of codes that are not served: 255 % 16.
-fn code_entry(base: u8, group: u8, code: Code) -> Entry
+// 15 is the key of codes that are not served.
+fn code_entry(base: u8, code: Option<u16>, group: Option<u8>) -> Entry
     requires { base < 64 }
-    ensures { result ≡ code_entry base (cond code.given group not_served) code }
+    ensures { result ≡ code_entry base (unwrap_or group not_served) code }
 {
-    if code.given {
-        return Entry {
-            key: base + group % 16,
-            value: code.code as i64,
-        };
-    }
     Entry {
-        key: base + 15,
-        value: code.code as i64,
+        key: base + group.unwrap_or(15) % 16,
+        value: code.unwrap_or(0) as i64,
     }
 }

@@ -14,7 +14,7 @@ use Rattle.grammar.specs.Derivation.{strip}
 use Rattle.grammar.specs.Typed.{prepare, keeps, as_kept, stays, typed_from}
 use Rattle.grammar.proofs.Preparing.{prepare_none, outside, drops, takes}
 use Rattle.text.specs.Prepare.{plain, Done, Copied, bytes_of, prepared}
-use Rattle.text.specs.declared.Prepared.TheVariants.{Bytes, TooLong}
+use Rattle.std.specs.Prelude.{Some, None}
 
 -- a blank outside a comment leaves outside
 from_dropped : (c : Bool) (b : ℕ) (s : List ℕ) → keeps c b ≡ false → prepare c (b ∷ s) ≡ prepare c s
@@ -64,13 +64,13 @@ module _ (l old : List ℕ) where
         let e : drop i l ≡ [] = drop_of_length-le l h in
         record { out = q.out; many = q.many; behind = q.behind; within = q.within; holds = q.holds; makes = rw (e, prepare_none false) (rw (e, prepare_none c) at q.makes) }
 
-    pub ends : length l ≤ length old → length l ≤ i → (Bytes n ≡ bytes_of l (length old)) × (text ≡ prepared l old)
+    pub ends : length l ≤ length old → length l ≤ i → (Some n ≡ bytes_of l (length old)) × (text ≡ prepared l old)
     unfolding bytes_of prepared
     ends s h =
         let k : n ≡ length (strip l) = sym q.many ∙ ap length (all_of_it h) in
-        (rw (le-leb (length l) (length old) s) (ap Bytes k), rw (le-leb (length l) (length old) s) (q.holds ∙ rw (all_of_it h, k)))
+        (rw (le-leb (length l) (length old) s) (ap Some k), rw (le-leb (length l) (length old) s) (q.holds ∙ rw (all_of_it h, k)))
 
-  pub too_long : length old < length l → (TooLong ≡ bytes_of l (length old)) × (old ≡ prepared l old)
+  pub too_long : length old < length l → (None ≡ bytes_of l (length old)) × (old ≡ prepared l old)
   unfolding bytes_of prepared
   too_long h = (rw (lt-leb (length l) (length old) h), rw (lt-leb (length l) (length old) h))
 
@@ -125,8 +125,11 @@ module _ (l before : List ℕ) {to at : ℕ} where
       goes = λ old s d m e. (let z : m ≡ n = (let f = q.even in omega arith) in rw z (q.goes old s d));
     }
 
-    pub unclosed : Copying l before text to at n i true → length l ≤ i → Copying l before text to at n i false
-    unclosed q h = record { on = q.on; within = q.within; even = q.even; long = q.long; goes = λ old s d. line_ends l old (q.goes old s d) h }
+    -- the line ends in it
+    pub unclosed : Copying l before text to at n i true → length l ≤ i → Copied l before text to at (length l)
+    unclosed q h =
+        let z : i ≡ length l = (let w = q.within in omega arith) in
+        rw z at (closed (record { on = q.on; within = q.within; even = q.even; long = q.long; goes = λ old s d. line_ends l old (q.goes old s d) h }))
 
 -- ---- where a prepared byte stands in the typed line
 

@@ -1,11 +1,9 @@
 -- The prepared line in a lent space.
 -- Assumes nothing.
-use Rattle.std.specs.Prelude.{◌≡◌, Bool, true, false, cond, List, ◌++◌, ℕ, ◌+◌, ◌≤◌, ltb, leb, length, drop}
+use Rattle.std.specs.Prelude.{◌≡◌, Bool, true, false, cond, List, ◌++◌, Option, Some, None, ℕ, ◌+◌, ◌≤◌, ltb, leb, length, drop}
 use Rattle.grammar.specs.Bytes.{byte}
 use Rattle.grammar.specs.Derivation.{strip}
 use Rattle.grammar.specs.Typed.{prepare}
-use Rattle.text.specs.declared.Prepared.{Prepared}
-use Rattle.text.specs.declared.Prepared.TheVariants.{Bytes, TooLong}
 
 -- a byte that is kept as it is outside comments, and opens none: above `(` and below the small letters
 abbrev pub plain : ℕ → Bool
@@ -26,8 +24,8 @@ pub record Copied (l before after : List ℕ) (to at p : ℕ) : Type 0 where
   pub goes : (old : List ℕ) → length l ≤ length old → Done l old before to at true → (n : ℕ) → n + at ≡ to + p → Done l old after n p false
 
 -- how many bytes the prepared line has, where there was room for the line
-unfoldable pub bytes_of : List ℕ → ℕ → Prepared
-bytes_of line room = cond (leb (length line) room) (Bytes (length (strip line))) TooLong
+unfoldable pub bytes_of : List ℕ → ℕ → Option ℕ
+bytes_of line room = cond (leb (length line) room) (Some (length (strip line))) None
 
 -- the prepared line, then what stood there past it; where there is no room, all that stood there
 unfoldable pub prepared : List ℕ → List ℕ → List ℕ

@@ -3,37 +3,21 @@
 #![tactic(auto)]
 
 ghost use Rattle.std.specs.Prelude.{◌≡◌, false, cond, ◌-◌, ◌≤◌, length};
-ghost use Rattle.grammar.specs.Derivation.{blank, raise};
+ghost use Rattle.grammar.specs.Derivation.{raise};
 ghost use Rattle.grammar.specs.Typed.{keeps, stays, typed_from};
 ghost use Rattle.text.specs.Prepare.{plain, Copied, bytes_of, prepared};
 
-// How many bytes the prepared line has, where there was room for the line.
-#[derive(Clone, Copy)]
-pub enum Prepared {
-    Bytes(usize),
-    TooLong,
-}
+pub mod bytes;
 
-fn is_blank(b: u8) -> bool
-    ensures { result ≡ blank b }
-{
-    match b {
-        b' ' => true,
-        b'\t' => true,
-        _ => false,
-    }
-}
+use bytes::is_blank;
 
 fn raised(b: u8) -> u8
     ensures { result ≡ raise b }
 {
-    if b < b'a' {
-        return b;
+    match b {
+        b'a'..=b'z' => b - 32,
+        _ => b,
     }
-    if b'z' < b {
-        return b;
-    }
-    b - 32
 }
 
 // Whether a byte is kept as it is and opens no comment, as most are: one test of a range.
@@ -49,29 +33,28 @@ fn copy_comment(line: &[u8], at: usize, text: &mut [u8], to: usize) -> usize
     ensures { Copied line.now text.old text.new to at result }
 {
     let mut n = to;
-    let mut i = at;
-    while i < line.len() {
+    for i in at..line.len() {
         let b = line[i];
-        i += 1;
         text[n] = b;
         n += 1;
         if b == b')' {
-            return i;
+            return i + 1;
         }
     }
-    i
+    line.len()
 }
 
-// Prepares the line into the text, whose bytes past it stay as they were. A line is too long where it
-// has more bytes than the text.
-pub fn prepare(line: &[u8], text: &mut [u8]) -> Prepared
+// Prepares the line into the text, whose bytes past it stay as they were, and tells how many bytes it then
+// has. A line of more bytes than the text has none: it is too long.
+pub fn prepare(line: &[u8], text: &mut [u8]) -> Option<usize>
     ensures { (result ≡ bytes_of line.now (length text.old)) × (text.new ≡ prepared line.now text.old) }
 {
     if text.len() < line.len() {
-        return Prepared::TooLong;
+        return None;
     }
     let mut n: usize = 0;
     let mut i: usize = 0;
+    // No `for`: a comment is passed in one step, so the next place is not always one further.
     while i < line.len() {
         let b = line[i];
         if is_plain(b) {
@@ -91,16 +74,13 @@ pub fn prepare(line: &[u8], text: &mut [u8]) -> Prepared
             i += 1;
         }
     }
-    Prepared::Bytes(n)
+    Some(n)
 }
 
 fn keeps_byte(inside: bool, b: u8) -> bool
     ensures { result ≡ keeps inside b }
 {
-    if inside {
-        return true;
-    }
-    !is_blank(b)
+    inside || !is_blank(b)
 }
 
 fn stays_inside(inside: bool, b: u8) -> bool
@@ -132,16 +112,13 @@ pub fn typed_place(line: &[u8], kept: usize) -> usize
 {
     let mut inside = false;
     let mut left = kept;
-    let mut i: usize = 0;
-    while i < line.len() {
-        let b = line[i];
+    for (i, &b) in line.iter().enumerate() {
         let keeps = keeps_byte(inside, b);
         if keeps && left == 0 {
             return i;
         }
         left = still_left(keeps, left);
         inside = stays_inside(inside, b);
-        i += 1;
     }
-    i
+    line.len()
 }

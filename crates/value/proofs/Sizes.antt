@@ -11,7 +11,7 @@ use lib.Dec.{leb, ltb}
 use lib.IntN.{ℤ, pos, nat_abs, ◌-ℤ◌, ◌*ℤ◌}
 use borrow.Author.Tests.{le-leb, lt-leb, ltb-true, ltb-false}
 use Rattle.rules.specs.Numbers.{minus, signed, differ, within, nearest, near}
-use Rattle.rules.specs.declared.Near.TheVariants.{To, Nothing}
+use Rattle.std.specs.Prelude.{Some, None}
 use Rattle.rules.proofs.Signs.{signed_abs}
 use Rattle.rules.proofs.Nearest.{nearest_by, signed_times, signed_apart}
 use Rattle.value.specs.Guarded.{nearest_size, apart, near_size}
@@ -98,10 +98,10 @@ module _ (a : ℤ) (step : ℕ) {n : ℕ} {t : Bool} (size : n ≡ nat_abs a) (t
   tested : {u : Bool} → t ≡ u → within 1 (a -ℤ nearest a (pos step) *ℤ pos step) ≡ u
   tested e = near_by a step ∙ rw (← size) (sym test ∙ e)
 
-  pub near_is : {s : Bool} {k : ℕ} → s ≡ minus a → k ≡ nearest_size n step → t ≡ true → To (signed s k) ≡ near step a
+  pub near_is : {s : Bool} {k : ℕ} → s ≡ minus a → k ≡ nearest_size n step → t ≡ true → Some (signed s k) ≡ near step a
   unfolding near
-  near_is sign steps e = rw (tested e, sign, steps, size) (ap To (sym (nearest_steps a step)))
+  near_is sign steps e = rw (tested e, sign, steps, size) (ap Some (sym (nearest_steps a step)))
 
-  pub near_none : t ≡ false → Nothing ≡ near step a
+  pub near_none : t ≡ false → None ≡ near step a
   unfolding near
   near_none e = rw (tested e)

@@ -8,9 +8,11 @@ use native.Mathlib.Omega.{arith}
 use native.Mathlib.Nat as N
 use lib.Dec.{lit<}
 use lib.IntN.{pos}
+use Rattle.std.proofs.lemmas.Nat.{pow-add}
 use Rattle.rules.specs.Numbers.{signed, nearest}
 use Rattle.rules.specs.Meaning.{ranged, written}
-use Rattle.rules.specs.declared.Worked.TheVariants.{Bad}
+use Rattle.std.specs.Prelude.{Err}
+use Rattle.rules.specs.declared.Refusal.TheVariants.{OutOfRange}
 use Rattle.rules.proofs.Nearest.{nearest_by}
 use Rattle.rules.proofs.Fifth.{few_decimals, by_fifth_digit}
 use Rattle.value.specs.Guarded.{nearest_size}
@@ -37,7 +39,7 @@ place_high (suc (suc (suc (suc k)))) = rw (place_one (suc (suc (suc (suc k)))) (
 
 module _ (s : Bool) where
   -- digits past the range are out of it wherever the point stands
-  pub too_large : (n k : ℕ) → k ≤ 4 → 999999999 < n → written s n k ≡ Bad 5
+  pub too_large : (n k : ℕ) → k ≤ 4 → 999999999 < n → written s n k ≡ Err OutOfRange
   too_large n k h l = few_decimals s n k h ∙ signed_out s (N.lt_of_lt_of_le l (rw (N.mul-one n) at (N.mul-le-mul (N.le_refl n) (place_low k))))
 
   -- ---- five
@@ -67,10 +69,13 @@ module _ (s : Bool) where
       rw (e, N.div-add-mod' n (10 ^ (d - 5))) at (after_fifth (n / 10 ^ (d - 5)) (d - 5) (n % 10 ^ (d - 5)) (N.mod-lt n (N.one-le-pow (d - 5) 10 (lit< tt))))
 
 -- the digits less the last, one decimal fewer
-pub one_fewer : (n d : ℕ) → 5 < d → n / 10 / 10 ^ (d - 1 - 5) ≡ n / 10 ^ (d - 5)
-one_fewer n d h =
-    let e : d - 5 ≡ suc (d - 1 - 5) = omega arith in
-    N.div-div-eq-div-mul n 10 (10 ^ (d - 1 - 5)) ∙ rw (e, N.pow-succ' 10 (d - 1 - 5))
+pub one_fewer : (n k : ℕ) → 5 ≤ k → n / 10 ^ (k - 5) / 10 ≡ n / 10 ^ (k + 1 - 5)
+one_fewer n k h =
+    let e : k + 1 - 5 ≡ suc (k - 5) = omega arith in
+    N.div-div-eq-div-mul n (10 ^ (k - 5)) 10 ∙ rw (e, N.pow-suc 10 (k - 5))
 
-pub none_fewer : (n d : ℕ) → 5 ≤ d → d ≤ 5 → n ≡ n / 10 ^ (d - 5)
-none_fewer n d l h = let e : d - 5 ≡ 0 = omega arith in rw e (sym (N.div-one n))
+-- where nothing is left, nothing is left of fewer digits
+pub none_left : (n k d : ℕ) → 5 ≤ k → k ≤ d → 0 ≡ n / 10 ^ (k - 5) → 0 ≡ n / 10 ^ (d - 5)
+none_left n k d l h e =
+    let far : d - 5 ≡ (k - 5) + (d - k) = omega arith in
+    rw (far, pow-add 10 (k - 5) (d - k), sym (N.div-div-eq-div-mul n (10 ^ (k - 5)) (10 ^ (d - k))), sym e) (sym (N.zero-div (10 ^ (d - k))))

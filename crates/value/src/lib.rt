@@ -12,36 +12,32 @@ ghost use Rattle.rules.specs.Meaning.{written, parameter_of};
 
 use rounding::near_steps;
 pub use rounding::rounded;
-use rules::{Near, Parameter, Value, Worked};
+use rules::{Refusal, Value, Worked};
 pub use signs::{ranged_signed, size_of};
 
 // The parameter that a value names.
-pub fn parameter(a: Value) -> Parameter
+pub fn parameter(a: Value) -> Option<usize>
     ensures { result ≡ parameter_of a.0 }
 {
-    match whole(a) {
-        Near::To(n) => {
-            if n < 1 {
-                return Parameter::Outside;
-            }
-            if 4999 < n {
-                return Parameter::Outside;
-            }
-            Parameter::Number(n as usize)
-        }
-        Near::Nothing => Parameter::Outside,
+    let n = whole(a)?;
+    if n < 1 {
+        return None;
     }
+    if 4999 < n {
+        return None;
+    }
+    Some(n as usize)
 }
 
 // The whole number that a value counts as.
-pub fn whole(a: Value) -> Near
+pub fn whole(a: Value) -> Option<i64>
     ensures { result ≡ whole a.0 }
 {
     near_steps(10_000, a)
 }
 
 // The number of tenths that a value counts as.
-pub fn tenth(a: Value) -> Near
+pub fn tenth(a: Value) -> Option<i64>
     ensures { result ≡ tenth a.0 }
 {
     near_steps(1000, a)
@@ -57,7 +53,7 @@ pub fn number(negative: bool, digits: u64, decimals: usize) -> Worked
     }
     // Out of range wherever the point stands. Asked first, so that the product below fits.
     if 999_999_999 < digits {
-        return Worked::Bad(5);
+        return Err(Refusal::OutOfRange);
     }
     ranged_signed(negative, digits * last_place(decimals))
 }
@@ -94,13 +90,11 @@ fn up_to_fifth(digits: u64, decimals: usize) -> u64
     ensures { result ≡ digits / 10 ^ (decimals - 5) }
 {
     let mut kept = digits;
-    let mut left = decimals;
-    while 5 < left {
+    for _ in 5..decimals {
         if kept == 0 {
             return 0;
         }
-        kept = kept / 10;
-        left -= 1;
+        kept /= 10;
     }
     kept
 }

@@ -6,7 +6,7 @@ ghost use Rattle.value.specs.Guarded.{nearest_size, near_size};
 
 use super::is_below_zero;
 use super::signs::{signed, size_of};
-use rules::{Near, Value};
+use rules::Value;
 
 // n / d to the nearest whole number, halves up; 0 where d is 0.
 pub fn rounded(n: u64, d: u64) -> u64
@@ -33,14 +33,14 @@ fn is_near(n: u64, step: u64) -> bool
 }
 
 // The number of steps, of so many ten-thousandths each, that a value counts as.
-pub(crate) fn near_steps(step: u64, a: Value) -> Near
+pub(crate) fn near_steps(step: u64, a: Value) -> Option<i64>
     requires { 1000 ≤ step }
     ensures { result ≡ near step a.0 }
 {
     let n = size_of(a.0);
     if is_near(n, step) {
         let steps = signed(is_below_zero(a), rounded(n, step));
-        return Near::To(steps.0);
+        return Some(steps.0);
     }
-    Near::Nothing
+    None
 }

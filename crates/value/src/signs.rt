@@ -3,13 +3,13 @@ ghost use Rattle.std.specs.Prelude.{◌≡◌, ◌<◌, ◌^◌, nat_abs};
 ghost use Rattle.rules.specs.Numbers.{signed};
 ghost use Rattle.rules.specs.Meaning.{ranged};
 
-use rules::{Value, Worked};
+use rules::{Refusal, Value, Worked};
 
-// How far a number is from zero. The least i64 has a size too, so it is not negated as an i64.
+// How far a number is from zero.
 pub fn size_of(z: i64) -> u64
     ensures { result ≡ nat_abs z }
 {
-    if z < 0 { (-1 - z) as u64 + 1 } else { z as u64 }
+    z.unsigned_abs()
 }
 
 pub(crate) fn signed(negative: bool, size: u64) -> Value
@@ -25,8 +25,8 @@ pub fn ranged_signed(negative: bool, size: u64) -> Worked
     ensures { result ≡ ranged (signed negative size) }
 {
     if size <= 999_999_999 {
-        Worked::Good(signed(negative, size))
+        Ok(signed(negative, size))
     } else {
-        Worked::Bad(5)
+        Err(Refusal::OutOfRange)
     }
 }

@@ -4,13 +4,8 @@ use mathlib.Core.Path.{sym, ◌∙◌}
 use Rattle.arithmetic.proofs.Kept.{good_kept}
 use Rattle.arithmetic.proofs.apply.Goals as goal
 
-pub function-requires : goal.function-requires
-function-requires c =
-    good_kept c.args.a c.in-Good.x (sym c.checked.ensures ∙ c.in-Good.is)
+pub invariant_of-function : goal.invariant_of-function
+invariant_of-function c = record { in_range = good_kept c.args.a c.in_ok-x.x (sym c.checked.ensures ∙ c.in_ok-x.was) }
 
-pub returns-in-Good : goal.returns-in-Good
-returns-in-Good c =
-    c.function.ensures ∙ rw (sym c.checked.ensures ∙ c.in-Good.is)
-
-pub returns-in-Bad : goal.returns-in-Bad
-returns-in-Bad c = rw (sym c.checked.ensures ∙ c.in-Bad.is)
+pub returns : goal.returns
+returns c = c.function.ensures ∙ rw (sym c.checked.ensures ∙ c.in_ok-x.was)

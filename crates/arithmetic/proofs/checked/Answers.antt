@@ -3,8 +3,5 @@
 use mathlib.Core.Path.{◌∙◌}
 use Rattle.arithmetic.proofs.checked.Goals as goal
 
-pub returns-in-Good : goal.returns-in-Good
-returns-in-Good c = c.ranged.ensures ∙ rw c.in-Good.is
-
-pub returns-in-Bad : goal.returns-in-Bad
-returns-in-Bad c = rw c.in-Bad.is
+pub returns : goal.returns
+returns c = c.ranged.ensures ∙ rw c.in_ok-v.was

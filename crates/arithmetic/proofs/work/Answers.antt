@@ -4,8 +4,8 @@ use mathlib.Core.Path.{sym, ◌∙◌}
 use Rattle.arithmetic.proofs.Kept.{good_kept}
 use Rattle.arithmetic.proofs.work.Goals as goal
 
-pub operation-requires-clause-ranged : goal.operation-requires-clause-ranged
-operation-requires-clause-ranged c = good_kept c.args.a c.in-Good.x (sym c.checked.ensures ∙ c.in-Good.is)
+pub invariant_of-operation : goal.invariant_of-operation
+invariant_of-operation c = record { in_range = good_kept c.args.a c.in_ok-x.x (sym c.checked.ensures ∙ c.in_ok-x.was) }
 
-pub operation-requires-clause-ranged_2 : goal.operation-requires-clause-ranged_2
-operation-requires-clause-ranged_2 c = good_kept c.args.b c.in-Good-checked.y (sym c.checked-in-Good.ensures ∙ c.in-Good-checked.is)
+pub invariant_of-operation-2 : goal.invariant_of-operation-2
+invariant_of-operation-2 c = record { in_range = good_kept c.args.b c.in_ok-y.y (sym c.checked-2.ensures ∙ c.in_ok-y.was) }

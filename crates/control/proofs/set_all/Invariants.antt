@@ -3,11 +3,7 @@ use Rattle.control.proofs.Settings.{onward}
 use Rattle.control.specs.Worked.{settings_of}
 use Rattle.rules.specs.Promise.{apply}
 use lib.ListN.{length, take}
-use Prim.Native.Nat.{◌≤◌, ◌-◌}
 use Rattle.control.proofs.set_all.Given as goal
 
 abbrev pub invariant-loop-i : goal.invariant-loop-i
-invariant-loop-i l = (l.i ≤ l.count) × (length l.table ≡ length l.initial.table) × (apply (settings_of (take l.count l.numbers) (take l.count l.amounts)) l.initial.table ≡ apply (onward l.numbers l.amounts l.count l.i) l.table)
-
-abbrev pub decreases-loop-i : goal.decreases-loop-i
-decreases-loop-i l = l.count - l.i
+invariant-loop-i l = (length l.table ≡ length l.initial.table) × (apply (settings_of (take l.count l.numbers) (take l.count l.amounts)) l.initial.table ≡ apply (onward l.numbers l.amounts l.count l.i) l.table)

@@ -9,7 +9,7 @@ pub returns-in-Accepted : goal.returns-in-Accepted
 returns-in-Accepted c = ap (λ (a : Answer). answered a c.args.place c.args.work) (sym c.in-Accepted.is)
 
 pub returns-in-Refused : goal.returns-in-Refused
-returns-in-Refused c = ap (λ (a : Answer). answered a c.args.place c.args.work) (sym c.in-Refused.is)
+returns-in-Refused c = rw (c.from.ensures, c.number.ensures) (ap (λ (a : Answer). answered a c.args.place c.args.work) (sym c.in-Refused.is))
 
 pub returns-in-Skipped : goal.returns-in-Skipped
 returns-in-Skipped c = ap (λ (a : Answer). answered a c.args.place c.args.work) (sym c.in-Skipped.is)

@@ -7,5 +7,5 @@ use Rattle.embed.proofs.pack.Goals as goal
 pub returns : goal.returns
 returns c =
     c.put_quantities.ensures
-    ∙ rw (c.put_modes.ensures, c.put_place-2.ensures.1, c.put_origins.ensures.1, c.put_place.ensures.1)
-    (all_runs c.args.r c.args.rec.now c.requires c.put_place.ensures.0 c.put_origins.ensures.0 c.put_place-2.ensures.0)
+    ∙ rw (c.put_modes.ensures, c.put_lengths-3.ensures.1, c.put_lengths-2.ensures.1, c.put_lengths.ensures.1)
+    (all_runs c.args.r.now c.args.rec.now c.requires c.put_lengths.ensures.0 c.put_lengths-2.ensures.0 c.put_lengths-3.ensures.0)

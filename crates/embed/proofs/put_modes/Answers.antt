@@ -12,9 +12,9 @@ bounds-rec-37 c = simp length-set (omega arith)
 pub returns : goal.returns
 returns c =
     simp (
-      to_z_pos w64 {n = c.args.motion} (omega arith),
-      to_z_pos w64 {n = c.args.plane} (omega arith),
-      to_z_pos w64 {n = c.args.distance} (omega arith),
-      to_z_pos w64 {n = c.args.units} (omega arith),
-      to_z_pos w64 {n = c.args.system} (omega arith),
+      to_z_pos w64 {n = c.args.r.now.motion} (omega arith),
+      to_z_pos w64 {n = c.args.r.now.plane} (omega arith),
+      to_z_pos w64 {n = c.args.r.now.distance} (omega arith),
+      to_z_pos w64 {n = c.args.r.now.units} (omega arith),
+      to_z_pos w64 {n = c.args.r.now.system} (omega arith),
     )

@@ -14,9 +14,9 @@ bounds-rec-42 c = simp length-set (omega arith)
 pub returns : goal.returns
 returns c =
     simp (
-      back c.args.feed.0 (record { sfits = search rules }),
-      back c.args.speed.0 (record { sfits = search rules }),
-      to_z_pos w64 {n = c.args.tool} (omega arith),
-      to_z_pos w64 {n = c.args.spindle} (omega arith),
-      to_z_pos w64 {n = c.args.coolant} (omega arith),
+      back c.args.r.now.feed.0 (record { sfits = search rules }),
+      back c.args.r.now.speed.0 (record { sfits = search rules }),
+      to_z_pos w64 {n = c.args.r.now.tool} (omega arith),
+      to_z_pos w64 {n = c.args.r.now.spindle} (omega arith),
+      to_z_pos w64 {n = c.args.r.now.coolant} (omega arith),
     )

@@ -1,31 +1,33 @@
 -- `embed::unpack` meets its contract.
 -- Assumes nothing.
+use Rattle.std.proofs.Common.{rules}
+use Rattle.laws.proofs.Ints.{back}
 use mathlib.Core.Path.{◌≡◌, refl}
 use mathlib.Core.Bool.{true}
 use Prim.Native.Nat.{ℕ, ◌+◌, ◌<◌}
 use native.Mathlib.Omega.{arith}
-use lib.ListN.{length}
-use lib.IntN.{ℤ}
+use lib.ListN.{length, get_or}
+use lib.IntN.{ℤ, pos}
 use mathlib.Core.List.{List}
 use Rattle.rules.specs.Reach.{up_to}
 use Rattle.embed.specs.Packing.{unpacked, number_at, holdable}
 use Rattle.embed.proofs.Held.{long, mode, small}
 use Rattle.embed.proofs.unpack.Goals as goal
 
-pub place_at-requires : goal.place_at-requires
-place_at-requires c = omega (arith, long c.args.rec.now c.requires)
+pub lengths_at-requires : goal.lengths_at-requires
+lengths_at-requires c = omega (arith, long c.args.rec.now c.requires)
 
-pub origins_at-requires : goal.origins_at-requires
-origins_at-requires c = omega (arith, long c.args.rec.now c.requires)
+pub lengths_at-requires-2 : goal.lengths_at-requires-2
+lengths_at-requires-2 c = omega (arith, long c.args.rec.now c.requires)
 
-pub place_at-requires-2 : goal.place_at-requires-2
-place_at-requires-2 c = omega (arith, long c.args.rec.now c.requires)
+pub lengths_at-requires-3 : goal.lengths_at-requires-3
+lengths_at-requires-3 c = omega (arith, long c.args.rec.now c.requires)
 
-pub length_at-requires : goal.length_at-requires
-length_at-requires c = omega (arith, long c.args.rec.now c.requires)
+pub bounds-rec-38 : goal.bounds-rec-38
+bounds-rec-38 c = omega (arith, long c.args.rec.now c.requires)
 
-pub speed_at-requires : goal.speed_at-requires
-speed_at-requires c = omega (arith, long c.args.rec.now c.requires)
+pub bounds-rec-39 : goal.bounds-rec-39
+bounds-rec-39 c = omega (arith, long c.args.rec.now c.requires)
 
 pub returns : goal.returns
 unfolding unpacked
@@ -34,16 +36,16 @@ returns c =
       c.small_at-3.ensures,
       c.small_at-2.ensures,
       c.small_at.ensures,
-      c.speed_at.ensures,
-      c.length_at.ensures,
+      back (get_or c.args.rec.now 39 (pos 0)) (search rules),
+      back (get_or c.args.rec.now 38 (pos 0)) (search rules),
       c.mode_at-5.ensures,
       c.mode_at-4.ensures,
       c.mode_at-3.ensures,
       c.mode_at-2.ensures,
       c.mode_at.ensures,
-      c.place_at-2.ensures,
-      c.origins_at.ensures,
-      c.place_at.ensures,
+      c.lengths_at-3.ensures,
+      c.lengths_at-2.ensures,
+      c.lengths_at.ensures,
     ) refl
 
 -- a record that is held has a mode at each of five places, and a small number at each of three

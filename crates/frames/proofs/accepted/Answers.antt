@@ -9,13 +9,13 @@ pub returns-then-out-many : goal.returns-then-out-many
 returns-then-out-many c =
     no_frame c.args.text.now c.args.at (commands_short c.args.many c.args.out.now (omega arith))
 
-pub returns-then-text-at : goal.returns-then-text-at
-returns-then-text-at c =
+pub returns-in_err-room : goal.returns-in_err-room
+returns-in_err-room c =
     let f = frames_in c.args.many c.args.out.now in
-    no_room c.args.text.now c.args.at f (commands_there c.args.many c.args.out.now (omega arith)) (omega arith)
+    rw c.from_residual.ensures (no_room c.args.text.now c.args.at f (commands_there c.args.many c.args.out.now (omega arith)) (omega arith))
 
-pub returns-then-text-at-2 : goal.returns-then-text-at-2
-returns-then-text-at-2 c =
+pub returns-then-room-size : goal.returns-then-room-size
+returns-then-room-size c =
     let f = frames_in c.args.many c.args.out.now in
     no_room c.args.text.now c.args.at f (commands_there c.args.many c.args.out.now (omega arith)) (omega (arith, c.frames_size-size.ensures))
 

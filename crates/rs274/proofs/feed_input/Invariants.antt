@@ -1,10 +1,8 @@
 use Rattle.std.proofs.Common.{List, ℕ}
+use Rattle.std.specs.Io.KnownBytes.{Consumes}
 use Rattle.run.specs.Stands.{start}
-use Rattle.run.specs.Calls.{Calls}
+use Rattle.rs274.specs.Feeding.{Called}
 use Rattle.rs274.proofs.feed_input.Given as goal
 
-abbrev pub invariant-loop-turns : goal.invariant-loop-turns
-invariant-loop-turns g l = (input : List ℕ) × (output : List ℕ) × Calls start l.fn.line l.fn.table input output l.run.state l.line l.table
-
-abbrev pub decreases-loop-turns : goal.decreases-loop-turns
-decreases-loop-turns g l = l.turns
+abbrev pub invariant-loop : goal.invariant-loop
+invariant-loop g l = (input : List ℕ) × Consumes (g.R.Read.remaining l.initial.reader) (g.R.Read.remaining l.reader) input × Called start l.fn.spaces input l.state l.spaces

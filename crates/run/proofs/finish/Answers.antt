@@ -1,9 +1,15 @@
 -- `run::finish` meets its contract: the last line, where the run has not ended.
 -- Assumes nothing.
-use mathlib.Core.Path.{refl, ap, ◌∙◌}
+use mathlib.Core.Bool.{false}
+use mathlib.Core.Path.{◌≡◌, refl, ap, subst, ◌∙◌}
+use Prim.Native.Nat.{ℕ}
 use native.Mathlib.Omega.{arith}
+use lib.ListN.{length, take}
+use lib.Seq.{length-take-le}
 use Rattle.run.specs.declared.State.{State}
-use Rattle.run.specs.Stands.{stand}
+use Rattle.run.specs.Stands.{stand, going}
+use Rattle.run.specs.Lending.{standing}
+use Rattle.run.specs.Promised.{EndsLine}
 use Rattle.run.proofs.Branches.{overfull_finishes, held_finishes, ended_closes, going_ends}
 use Rattle.run.proofs.finish.Goals as goal
 
@@ -19,5 +25,11 @@ returns-then-state c =
 
 pub returns : goal.returns
 returns c =
-    let st = stand c.args.state c.args.line.now c.args.table.now c.args.out.now c.args.text.now 0 in
-    (held_finishes st (omega arith) (going_ends c.args.state c.args.line.now c.args.table.now c.args.out.now c.args.text.now 0 c.if-state.false c.end_line-last.ensures), refl)
+    let line = c.args.line.now in
+    let st = stand c.args.state line c.args.table.now c.args.out.now c.args.text.now 0 in
+    let long : length (take c.args.state.held line) ≡ c.args.state.held = length-take-le c.args.state.held line (omega arith) in
+    let ends = c.end_line-last.ensures.ends line (ap (λ (k : ℕ). take k line) long) in
+    let after = standing c.end_line-last.result line c.end_line-last.new.lent in
+    let ends' = subst (λ (k : ℕ). EndsLine false (stand (going c.args.state.rec k) line c.args.table.now c.args.out.now c.args.text.now 0) after) long ends in
+    let going-on = going_ends c.args.state line c.args.table.now c.args.out.now c.args.text.now 0 c.if-state.false ends' in
+    (λ tree tells. grind arith ∙ held_finishes st (omega arith) going-on tree tells, refl)

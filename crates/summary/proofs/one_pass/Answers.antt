@@ -1,5 +1,5 @@
--- `summary::one_pass` meets its contract. The loop's invariant: the mask, the number of words and the values held, with the words still ahead, come to what all the
--- words come to.
+-- `summary::one_pass` meets its contract. The loop's invariant: what is filed and the number of words, with the words still ahead, come to what all the words
+-- come to.
 -- Assumes nothing.
 use mathlib.Core.Path.{◌≡◌, sym, ap, ◌∙◌}
 use mathlib.Core.List.{List, []}
@@ -15,9 +15,10 @@ use Rattle.rules.specs.Meaning.{Said}
 use Rattle.summary.specs.Keys.{entry_of}
 use Rattle.summary.specs.Words.{said, lettered}
 use Rattle.summary.specs.declared.words.Entry.{Entry}
+use Rattle.summary.specs.declared.filing.Filed.{Filed}
 use Rattle.summary.proofs.Held.{from, all_passed, all_lettered}
 use Rattle.summary.proofs.Entries.{entries, key_few, next_filed, next_passed}
-use Rattle.summary.proofs.Kept.{Kept, keep_none, keep_one, ones_few}
+use Rattle.summary.proofs.Kept.{Kept, keep_none, keep_one}
 use Rattle.summary.proofs.Summed.{codes_in, summary_is}
 use Rattle.summary.proofs.one_pass.Goals as goal
 use Rattle.summary.proofs.one_pass.Goals.{then-is_letter, else-is_letter}
@@ -30,15 +31,15 @@ as_read : (ls : List ℕ) (vs : List ℤ) (i : ℕ) → SFits w64 (get_or vs i (
 as_read ls vs i f e = e ∙ ap (λ (v : ℤ). entry_of (record { letter = get_or ls i 0; value = v })) (to_z-of_z w64 (get_or vs i (pos 0)) f)
 
 pub loop-i-init : goal.loop-i-init
-loop-i-init c = (omega arith, omega arith, keep_none _)
+loop-i-init c = (omega arith, keep_none _)
 
-pub keep-mask-requires : goal.keep-mask-requires
-keep-mask-requires c =
-    rw (as_read c.args.letters.now c.args.values.now c.loop-i.i (search rules) c.entry_of-entry.ensures) (key_few (read c.args.letters.now c.args.values.now c.loop-i.i))
+pub keep-requires : goal.keep-requires
+keep-requires c =
+    rw (as_read c.args.letters.now c.args.values.now c.loop-i.i (search rules) c.entry_of.ensures) (key_few (read c.args.letters.now c.args.values.now c.loop-i.i))
 
 -- the words from here on are none: all are passed
-passed : (ls : List ℕ) (vs : List ℤ) (i : ℕ) → length ls ≤ i → {mask number : ℕ} {held : List ℤ}
-    → Kept (entries (lettered (said ls vs))) (entries (lettered (from ls vs i))) mask number held → Kept (entries (lettered (said ls vs))) [] mask number held
+passed : (ls : List ℕ) (vs : List ℤ) (i : ℕ) → length ls ≤ i → {number : ℕ} {filed : Filed}
+    → Kept (entries (lettered (said ls vs))) (entries (lettered (from ls vs i))) number filed → Kept (entries (lettered (said ls vs))) [] number filed
 passed ls vs i h k = rw (all_passed ls vs i h) at k
 
 pub loop-i-preserved : goal.loop-i-preserved
@@ -46,24 +47,19 @@ loop-i-preserved c =
     let told = sym c.is_letter.ensures in
     elim c.if-is_letter.branch [
       | then-is_letter w ↦
-          let e = as_read c.args.letters.now c.args.values.now c.loop-i.i (search rules) w.entry_of-entry.ensures in
-          rw (w.held-is, w.mask-is, w.number-is) (
-            omega arith,
-            omega arith,
-            rw (w.keep-mask.ensures.value, w.keep-mask.ensures.held_after, e) (keep_one (entry_of (read c.args.letters.now c.args.values.now c.loop-i.i)) (key_few (read c.args.letters.now c.args.values.now c.loop-i.i)) (rw (next_filed c.args.letters.now c.args.values.now c.loop-i.i (omega arith) (omega arith) (told ∙ w.if-is_letter.true)) at c.loop-i.invariant.2)),
-          )
+          let word = read c.args.letters.now c.args.values.now c.loop-i.i in
+          let e = as_read c.args.letters.now c.args.values.now c.loop-i.i (search rules) w.entry_of.ensures in
+          let filed = rw (next_filed c.args.letters.now c.args.values.now c.loop-i.i (omega arith) (omega arith) (told ∙ w.if-is_letter.true)) at c.loop-i.invariant.1 in
+          rw (w.filed-is, w.number-is, w.keep.ensures, e) (omega arith, keep_one (entry_of word) (key_few word) filed)
       | else-is_letter w ↦
-          rw (w.held-is, w.mask-is, w.number-is) (omega arith, omega arith, rw (next_passed c.args.letters.now c.args.values.now c.loop-i.i (omega arith) (omega arith) (told ∙ w.if-is_letter.false)) at c.loop-i.invariant.2)
+          rw (w.filed-is, w.number-is) (omega arith, rw (next_passed c.args.letters.now c.args.values.now c.loop-i.i (omega arith) (omega arith) (told ∙ w.if-is_letter.false)) at c.loop-i.invariant.1)
     ]
 
-pub overflow_cast-fewer : goal.overflow_cast-fewer
-overflow_cast-fewer c = omega (arith, ones_few (passed c.args.letters.now c.args.values.now c.loop-i.i c.loop-i-test.false c.loop-i.invariant.2))
-
-pub summary_of-requires : goal.summary_of-requires
-summary_of-requires c =
-    codes_in (lettered (said c.args.letters.now c.args.values.now)) (passed c.args.letters.now c.args.values.now c.loop-i.i c.loop-i-test.false c.loop-i.invariant.2)
+pub summary-requires : goal.summary-requires
+summary-requires c =
+    codes_in (lettered (said c.args.letters.now c.args.values.now)) (passed c.args.letters.now c.args.values.now c.loop-i.i c.loop-i-test.false c.loop-i.invariant.1)
 
 pub returns : goal.returns
 returns c =
-    c.summary_of.ensures
-    ∙ summary_is (lettered (said c.args.letters.now c.args.values.now)) (passed c.args.letters.now c.args.values.now c.loop-i.i c.loop-i-test.false c.loop-i.invariant.2) (all_lettered (said c.args.letters.now c.args.values.now))
+    c.summary.ensures
+    ∙ summary_is (lettered (said c.args.letters.now c.args.values.now)) (passed c.args.letters.now c.args.values.now c.loop-i.i c.loop-i-test.false c.loop-i.invariant.1) (all_lettered (said c.args.letters.now c.args.values.now))

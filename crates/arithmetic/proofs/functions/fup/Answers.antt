@@ -7,4 +7,4 @@ use Rattle.arithmetic.proofs.functions.fup.Goals as goal
 pub returns : goal.returns
 returns c =
     c.ranged_signed.ensures
-    ∙ simp (c.down_to.ensures, c.is_below_zero-negative.ensures, c.size.ensures, upward_by c.args.a.0)
+    ∙ simp (c.down_to.ensures, c.is_below_zero-negative.ensures, c.size.ensures, upward_by c.args.a.value.0)

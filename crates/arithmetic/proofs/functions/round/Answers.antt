@@ -7,4 +7,4 @@ use Rattle.arithmetic.proofs.functions.round.Goals as goal
 pub returns : goal.returns
 returns c =
     c.ranged_signed.ensures
-    ∙ simp (c.rounded.ensures, c.is_below_zero.ensures, c.size.ensures, rounded_by c.args.a.0)
+    ∙ simp (c.rounded.ensures, c.is_below_zero.ensures, c.size.ensures, rounded_by c.args.a.value.0)

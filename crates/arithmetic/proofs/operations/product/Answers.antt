@@ -13,5 +13,5 @@ overflow_mul-size c =
 pub returns : goal.returns
 returns c =
     c.ranged_signed.ensures
-    ∙ product_is c.args.a.0 c.args.b.0 c.size.ensures c.size-2.ensures
+    ∙ product_is c.args.a.value.0 c.args.b.value.0 c.size.ensures c.size-2.ensures
     c.is_below_zero.ensures c.is_below_zero-2.ensures c.rounded.ensures

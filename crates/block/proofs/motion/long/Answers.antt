@@ -5,4 +5,4 @@ use Rattle.lengths.proofs.Lengths.{conversion_is}
 use Rattle.block.proofs.motion.long.Goals as goal
 
 pub returns : goal.returns
-returns c = c.convert.ensures ∙ conversion_is c.args.units c.args.w.value (record { size = c.requires })
+returns c = c.convert.ensures ∙ conversion_is c.args.units c.args.v (record { size = c.requires })

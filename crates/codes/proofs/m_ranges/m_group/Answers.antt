@@ -1,13 +1,13 @@
 -- `codes::m_group` meets its contract: its ranges list what the groups list.
 -- Assumes nothing.
-use mathlib.Core.Path.{◌≡◌, refl, sym, ◌∙◌}
+use mathlib.Core.Path.{◌≡◌, refl, ap, sym, ◌∙◌}
 use mathlib.Core.List.{List, [], ◌∷◌}
 use mathlib.Core.Bool.{Bool, true, false, ◌&&◌}
 use Prim.Native.Nat.{ℕ, ◌+◌, ◌≤◌, ◌<◌}
 use native.Mathlib.Omega.{arith}
 use lib.Dec.{leb, ltb}
 use borrow.Author.Tests.{leb-true, le-leb, lt-leb, lt-ltb, le-ltb}
-use Rattle.rules.specs.Codes.{m_group}
+use Rattle.rules.specs.Codes.{m_group, served}
 use Rattle.codes.proofs.Ranges.{Spans, filed_in, by_ranges}
 use Rattle.codes.proofs.Ranges.Range.{◌codesFrom◌}
 use Rattle.codes.proofs.Ranges.Spans.{◌spans◌}
@@ -22,9 +22,9 @@ ranges =
     ∷ (8 spans ((3 codesFrom 7) ∷ []))
     ∷ []
 
-filed : (code group : ℕ) → filed_in ranges code ≡ group → group ≡ m_group code
+filed : (code group : ℕ) → filed_in ranges code ≡ group → served group ≡ served (m_group code)
 unfolding m_group
-filed code group e = sym (by_ranges ranges code ∙ e)
+filed code group e = ap served (sym (by_ranges ranges code ∙ e))
 
 -- a range that a code lies in, lies below, or lies above
 inside : (first n code : ℕ) → first ≤ code → code < first + n → (leb first code && ltb code (first + n)) ≡ true
@@ -43,41 +43,40 @@ beside first code other = by (leb first code) refl
     by true p = le-ltb code (first + 1) (omega (arith, leb-true first code p, other))
     by false p = refl
 
-pub returns-then-code-le2 : goal.returns-then-code-le2
-returns-then-code-le2 c =
-    filed c.args.code 4 (rw (inside 0 3 c.args.code (omega arith) (omega (arith, c.if-code-le2.true))) refl)
+pub returns-in-0-to-2 : goal.returns-in-0-to-2
+returns-in-0-to-2 c = filed c.args.code 4 (let e : c.args.code ≡ 30 = omega arith in rw e refl)
 
-pub returns-then-code-le5 : goal.returns-then-code-le5
-returns-then-code-le5 c =
+pub returns-in-0-to-2-2 : goal.returns-in-0-to-2-2
+returns-in-0-to-2-2 c = filed c.args.code 4 (rw (inside 0 3 c.args.code (omega arith) (omega arith)) refl)
+
+pub returns-in-3-to-5 : goal.returns-in-3-to-5
+returns-in-3-to-5 c =
     filed c.args.code 7 (rw (
-      above 0 3 c.args.code (omega (arith, c.if-code-le2.false)),
-      below 30 1 c.args.code (omega (arith, c.if-code-le5.true)),
-      below 6 1 c.args.code (omega (arith, c.if-code-le5.true)),
-      inside 3 3 c.args.code (omega (arith, c.if-code-le2.false)) (omega (arith, c.if-code-le5.true)),
+      above 0 3 c.args.code (omega arith),
+      below 30 1 c.args.code (omega arith),
+      below 6 1 c.args.code (omega arith),
+      inside 3 3 c.args.code (omega arith) (omega arith),
     ) refl)
 
-pub returns-then-code-eq6 : goal.returns-then-code-eq6
-returns-then-code-eq6 c = filed c.args.code 6 (rw c.if-code-eq6.true refl)
+pub returns-in-6 : goal.returns-in-6
+returns-in-6 c = filed c.args.code 6 (rw c.in-6.is refl)
 
-pub returns-then-code-le9 : goal.returns-then-code-le9
-returns-then-code-le9 c =
+pub returns-in-7-to-9 : goal.returns-in-7-to-9
+returns-in-7-to-9 c =
     filed c.args.code 8 (rw (
-      above 0 3 c.args.code (omega (arith, c.if-code-le5.false)),
-      below 30 1 c.args.code (omega (arith, c.if-code-le9.true)),
-      above 6 1 c.args.code (omega (arith, c.if-code-le5.false, c.if-code-eq6.false)),
-      above 3 3 c.args.code (omega (arith, c.if-code-le5.false)),
-      inside 7 3 c.args.code (omega (arith, c.if-code-le5.false, c.if-code-eq6.false)) (omega (arith, c.if-code-le9.true)),
+      above 0 3 c.args.code (omega arith),
+      below 30 1 c.args.code (omega arith),
+      above 6 1 c.args.code (omega arith),
+      above 3 3 c.args.code (omega arith),
+      inside 7 3 c.args.code (omega arith) (omega arith),
     ) refl)
 
-pub returns-then-code-eq30 : goal.returns-then-code-eq30
-returns-then-code-eq30 c = filed c.args.code 4 (rw c.if-code-eq30.true refl)
-
-pub returns : goal.returns
-returns c =
+pub returns-in_default : goal.returns-in_default
+returns-in_default c =
     filed c.args.code 255 (rw (
-      above 0 3 c.args.code (omega (arith, c.if-code-le9.false)),
-      beside 30 c.args.code c.if-code-eq30.false,
-      above 6 1 c.args.code (omega (arith, c.if-code-le9.false)),
-      above 3 3 c.args.code (omega (arith, c.if-code-le9.false)),
-      above 7 3 c.args.code (omega (arith, c.if-code-le9.false)),
+      above 0 3 c.args.code (omega arith),
+      beside 30 c.args.code (omega arith),
+      above 6 1 c.args.code (omega arith),
+      above 3 3 c.args.code (omega arith),
+      above 7 3 c.args.code (omega arith),
     ) refl)

@@ -6,11 +6,15 @@ use Rattle.embed.proofs.files.rs274_parameters_write.Goals as goal
 
 pub returns-then-not-holdable : goal.returns-then-not-holdable
 unfolding saved_plain
-returns-then-not-holdable c = rw (sym c.holdable.ensures ∙ c.if-not-holdable.true) refl
+returns-then-not-holdable c = rw (sym c.holdable.ensures ∙ c.if-not-holdable.true, c.unwritten.ensures) refl
 
 pub unpack-requires : goal.unpack-requires
 unpack-requires c = sym c.holdable.ensures ∙ c.if-not-holdable.false
 
-pub returns : goal.returns
+pub returns-in-Ok : goal.returns-in-Ok
 unfolding saved_plain
-returns c = rw (sym c.holdable.ensures ∙ c.if-not-holdable.false) (rw c.unpack.ensures at c.write-written.ensures)
+returns-in-Ok c = rw (sym c.holdable.ensures ∙ c.if-not-holdable.false) (rw c.unpack.ensures at c.in-Ok.ensures)
+
+pub returns-in-Err : goal.returns-in-Err
+unfolding saved_plain
+returns-in-Err c = rw (sym c.holdable.ensures ∙ c.if-not-holdable.false, c.unwritten-in-Err.ensures) (rw c.unpack.ensures at c.in-Err.ensures)

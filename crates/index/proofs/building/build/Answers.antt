@@ -1,14 +1,17 @@
 -- `index::building::build` meets its contract.
 -- Assumes nothing.
-use native.Mathlib.Omega.{arith}
-use Rattle.index.proofs.Handing.{long_text, many_numbers, built_index}
+use Prim.Native.Nat.{◌≤◌}
+use lib.ListN.{length}
+use Rattle.std.proofs.lemmas.Result.{err_from_is_err_and}
+use Rattle.index.proofs.Handing.{long_text, built_index}
 use Rattle.index.proofs.building.build.Goals as goal
 
-pub returns-then-text-gt60000 : goal.returns-then-text-gt60000
-returns-then-text-gt60000 c = long_text c.args.text.now c.args.index.now c.if-text-gt60000.true
-
-pub returns-then-count-gt2000 : goal.returns-then-count-gt2000
-returns-then-count-gt2000 c = many_numbers c.args.text.now c.args.index.now c.if-text-gt60000.false c.gather-count.ensures c.if-count-gt2000.true
+pub returns-in_err-text : goal.returns-in_err-text
+returns-in_err-text c =
+    let p = err_from_is_err_and c.from_residual.result c.from_residual.ensures.1 in
+    rw (p.1, p.2, c.in_err-text.ensures.0) (long_text c.args.text.now c.args.index.now c.in_err-text.ensures.1)
 
 pub returns : goal.returns
-returns c = built_index c.args.text.now c.args.index.now c.if-text-gt60000.false c.gather-count.ensures c.if-count-gt2000.false (omega arith) c.copy.ensures
+returns c =
+    let h : length c.in_ok-text.text.bytes.now ≤ 60000 = c.in_ok-text.text.short in
+    built_index c.args.text.now c.args.index.now (rw c.in_ok-text.ensures at h) (rw c.in_ok-text.ensures at c.gather.ensures) c.hand_over.ensures.answer c.hand_over.ensures.index

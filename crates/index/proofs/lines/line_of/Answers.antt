@@ -1,29 +1,24 @@
 -- `index::lines::line_of` meets its contract: so many lines are left to line k.
 -- Assumes nothing.
 use native.Mathlib.Omega.{arith}
-use Rattle.index.proofs.Walking.{way_none, way_begun, way_found, way_on, way_missing}
+use Rattle.index.proofs.Walking.{way_room, way_found, way_on, way_missing}
 use Rattle.index.proofs.lines.line_of.Goals as goal
 
-pub returns-then-k-eq0 : goal.returns-then-k-eq0
-returns-then-k-eq0 c = way_none c.args.text.now c.args.k c.if-k-eq0.true
+pub overflow_add-end : goal.overflow_add-end
+overflow_add-end c = let w = way_room c.args.text.now c.args.k (rw c.in-Some.ensures.steps at c.loop-piece.invariant.way) in omega arith
 
-pub loop-at-init : goal.loop-at-init
-loop-at-init c = way_begun c.args.text.now c.args.k c.if-k-eq0.false
+pub overflow_add-next : goal.overflow_add-next
+overflow_add-next c = let w = way_room c.args.text.now c.args.k (rw c.in-Some.ensures.steps at c.loop-piece.invariant.way) in omega arith
 
-pub line_at-cut-requires : goal.line_at-cut-requires
-line_at-cut-requires c = omega arith
+pub returns-then-left-eq0 : goal.returns-then-left-eq0
+returns-then-left-eq0 c = way_found c.args.text.now c.args.k (rw c.in-Some.ensures.steps at c.loop-piece.invariant.way) c.if-left-eq0.true
 
-pub overflow_sub-left : goal.overflow_sub-left
-overflow_sub-left c = omega (arith, c.loop-at.invariant.some)
+pub loop-piece-preserved : goal.loop-piece-preserved
+loop-piece-preserved c = record {
+  can = tt;
+  ends = tt;
+  way = way_on c.args.text.now c.args.k (rw c.in-Some.ensures.steps at c.loop-piece.invariant.way) c.if-left-eq0.false;
+}
 
 pub returns : goal.returns
-returns c = way_missing c.args.text.now c.args.k c.loop-at.invariant c.loop-at-test.false
-
-pub returns-then-left-eq1 : goal.returns-then-left-eq1
-returns-then-left-eq1 c = way_found c.args.text.now c.args.k c.loop-at.invariant c.line_at-cut.ensures c.if-left-eq1.true
-
-pub loop-at-smaller : goal.loop-at-smaller
-loop-at-smaller c = omega (arith, c.line_at-cut.ensures.on, c.line_at-cut.ensures.within)
-
-pub loop-at-preserved : goal.loop-at-preserved
-loop-at-preserved c = way_on c.args.text.now c.args.k c.loop-at.invariant c.line_at-cut.ensures c.if-left-eq1.false
+returns c = way_missing c.args.text.now c.args.k (rw (c.in-None.ensures.steps.0) at c.loop-piece.invariant.way)

@@ -1,12 +1,12 @@
 -- `index::lines::line_of` meets its contract: so many lines are left to line k.
 -- Assumes nothing.
-use Prim.Native.Nat.{◌-◌}
-use lib.ListN.{length}
+use Rattle.texts.specs.Walk.{pieces_in}
 use Rattle.index.proofs.Walking.{OnTheWay}
 use Rattle.index.proofs.lines.line_of.Given as goal
 
-abbrev pub invariant-loop-at : goal.invariant-loop-at
-invariant-loop-at l = OnTheWay l.text l.k l.left l.at
-
-abbrev pub decreases-loop-at : goal.decreases-loop-at
-decreases-loop-at l = length l.text - l.at
+abbrev pub invariant-loop-piece : goal.invariant-loop-piece
+invariant-loop-piece l = record {
+  can : (goal.iterator-loop-piece).can_next l.piece-iterator;
+  ends : (goal.iterator-loop-piece).is_finite l.piece-iterator;
+  way : OnTheWay l.text l.k l.left l.start (pieces_in l.piece-iterator);
+}

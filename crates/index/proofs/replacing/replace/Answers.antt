@@ -1,36 +1,37 @@
 -- `index::replacing::replace` meets its contract: 30, 32, 33 and 31 in that order, and then the index brought up to date.
 -- Assumes nothing.
-use mathlib.Core.Path.{ap, ◌∙◌}
-use mathlib.Core.List.{List}
-use Prim.Native.Nat.{ℕ}
-use native.Mathlib.Omega.{arith}
-use Rattle.index.specs.Held.{kept}
-use Rattle.index.proofs.Handing.{copied_in, entries_of, replaced_30, replaced_32, other_length, ends_inside, replaced_31, replaced_0}
+use mathlib.Core.Path.{◌≡◌, refl, sym, ap, ◌∙◌}
+use Prim.Native.Nat.{ℕ, ◌-◌, ◌≤◌}
+use lib.ListN.{length, take}
+use Rattle.std.proofs.lemmas.Result.{err_from_is_err_and}
+use Rattle.std.proofs.lemmas.Slice.{put_mid-paste}
+use Rattle.index.proofs.Handing.{entries_of, replaced_30, replaced_not, same_length, replaced_31, replaced_0}
 use Rattle.index.proofs.replacing.replace.Goals as goal
 
-pub returns-then-text-gt60000 : goal.returns-then-text-gt60000
-returns-then-text-gt60000 c = replaced_30 c.args.text.now c.args.index.now c.args.count c.args.k c.args.line.now c.if-text-gt60000.true
+pub returns-in_err-short : goal.returns-in_err-short
+returns-in_err-short c =
+    let p = err_from_is_err_and c.from_residual.result c.from_residual.ensures.1 in
+    rw (p.1, p.2, c.in_err-short.ensures.0) (replaced_30 c.args.text.now c.args.index.now c.args.count c.args.k c.args.line.now c.in_err-short.ensures.1)
 
-pub returns-in_default : goal.returns-in_default
-returns-in_default c = replaced_32 c.args.text.now c.args.index.now c.args.count c.args.k c.args.line.now c.if-text-gt60000.false (rw c.in_default.is at c.line_of.ensures)
+pub returns-in_err-old : goal.returns-in_err-old
+returns-in_err-old c =
+    let h : length c.in_ok-short.short.bytes.now ≤ 60000 = c.in_ok-short.short.short in
+    let p = err_from_is_err_and c.from_residual-in_err-old.result c.from_residual-in_err-old.ensures.1 in
+    rw (p.1, p.2) (replaced_not c.args.text.now c.args.index.now c.args.count c.args.k c.args.line.now (rw c.in_ok-short.ensures at h) (rw c.in_ok-short.ensures at c.in_err-old.ensures))
 
-pub overflow_sub-end : goal.overflow_sub-end
-overflow_sub-end c = omega (arith, (rw c.in-At.is at c.line_of.ensures).from)
-
-pub returns-then-line-end : goal.returns-then-line-end
-returns-then-line-end c = other_length c.args.text.now c.args.index.now c.args.count c.args.k c.args.line.now c.if-text-gt60000.false (rw c.in-At.is at c.line_of.ensures) c.if-line-end.true
-
-pub returns-then-holds_end : goal.returns-then-holds_end
-returns-then-holds_end c = ends_inside c.args.text.now c.args.index.now c.args.count c.args.k c.args.line.now c.if-text-gt60000.false (rw c.in-At.is at c.line_of.ensures) c.holds_end.ensures c.if-holds_end.true
-
-pub update-left-requires : goal.update-left-requires
-update-left-requires c = ((rw c.in-At.is at c.line_of.ensures), c.if-text-gt60000.false, omega (arith, c.entries_of-held.ensures))
-
-pub returns-then-left-gt2000 : goal.returns-then-left-gt2000
-returns-then-left-gt2000 c = replaced_31 c.args.text.now c.args.index.now c.args.count c.args.k c.args.line.now c.if-text-gt60000.false (rw c.in-At.is at c.line_of.ensures) c.if-line-end.false c.holds_end.ensures c.if-holds_end.false (ap (λ (x : List ℕ). kept x c.entries_of-held.result) c.copy.ensures ∙ copied_in c.args.index.now _ c.entries_of-held.result (omega (arith, c.entries_of-held.ensures)) (omega (arith, c.entries_of-held.ensures)) ∙ entries_of c.args.index.now c.args.count (omega arith) c.entries_of-held.ensures) c.update-left.ensures c.if-left-gt2000.true
-
-pub write_line-requires : goal.write_line-requires
-write_line-requires c = let w = (rw c.in-At.is at c.line_of.ensures) in omega (arith, w.from, w.behind, w.within, c.if-line-end.false)
+pub returns-in_err-left : goal.returns-in_err-left
+returns-in_err-left c =
+    let h : length c.in_ok-short.short.bytes.now ≤ 60000 = c.in_ok-short.short.short in
+    let p = err_from_is_err_and c.from_residual-in_err-left.result c.from_residual-in_err-left.ensures.1 in
+    let b : c.take_in.new.self ≡ take c.args.count c.args.index.now = c.take_in.ensures ∙ ap (λ (x : ℕ). take x c.args.index.now) c.min.ensures ∙ entries_of c.args.index.now c.args.count c.told-index in
+    let w = rw c.in_ok-short.ensures at c.in_ok-old.ensures in
+    rw (p.1, p.2) (replaced_31 c.args.text.now c.args.index.now c.args.count c.args.k c.args.line.now (rw c.in_ok-short.ensures at h) w.0 w.1 (rw (b, c.in_ok-short.ensures) at c.update.ensures) c.in_err-left.ensures.index (sym c.in_err-left.ensures.answer))
 
 pub returns : goal.returns
-returns c = replaced_0 c.args.text.now c.args.index.now c.args.count c.args.k c.args.line.now c.if-text-gt60000.false (rw c.in-At.is at c.line_of.ensures) c.if-line-end.false c.holds_end.ensures c.if-holds_end.false (ap (λ (x : List ℕ). kept x c.entries_of-held.result) c.copy.ensures ∙ copied_in c.args.index.now _ c.entries_of-held.result (omega (arith, c.entries_of-held.ensures)) (omega (arith, c.entries_of-held.ensures)) ∙ entries_of c.args.index.now c.args.count (omega arith) c.entries_of-held.ensures) c.update-left.ensures c.if-left-gt2000.false (omega arith) c.copy-2.ensures c.write_line.ensures
+returns c =
+    let h : length c.in_ok-short.short.bytes.now ≤ 60000 = c.in_ok-short.short.short in
+    let b : c.take_in.new.self ≡ take c.args.count c.args.index.now = c.take_in.ensures ∙ ap (λ (x : ℕ). take x c.args.index.now) c.min.ensures ∙ entries_of c.args.index.now c.args.count c.told-index in
+    let w = rw c.in_ok-short.ensures at c.in_ok-old.ensures in
+    let l = same_length c.args.text.now c.args.index.now c.args.count c.args.k c.args.line.now (rw c.in_ok-short.ensures at h) w.0 w.1 in
+    replaced_0 c.args.text.now c.args.index.now c.args.count c.args.k c.args.line.now (rw c.in_ok-short.ensures at h) w.0 w.1 (rw (b, c.in_ok-short.ensures) at c.update.ensures) c.in_ok-left.ensures.index (sym c.in_ok-left.ensures.answer)
+    (put_mid-paste c.in_ok-old.old.start (c.in_ok-old.old.end - c.in_ok-old.old.start) c.args.text.now c.copy_from_slice.new.self c.args.line.now (length c.args.line.now) c.copy_from_slice.ensures.after l refl)

@@ -2,13 +2,10 @@
 -- Assumes nothing.
 use mathlib.Core.Path.{◌≡◌}
 use mathlib.Core.List.{◌++◌}
-use Prim.Native.Nat.{◌-◌, ◌≤◌}
+use Prim.Native.Nat.{◌≤◌}
 use lib.ListN.{length, take, drop}
 use Rattle.mend.specs.Repairs.{flattened}
 use Rattle.mend.proofs.repairs.flatten.Given as goal
 
 abbrev pub invariant-loop-i : goal.invariant-loop-i
 invariant-loop-i l = (l.d ≤ l.i) × (l.i ≤ length l.line) × (length l.line ≡ length l.initial.line) × (take l.i l.line ++ flattened l.d (drop l.i l.line) ≡ flattened 0 l.initial.line)
-
-abbrev pub decreases-loop-i : goal.decreases-loop-i
-decreases-loop-i l = length l.line - l.i

@@ -1,17 +1,14 @@
--- `mend::repairs::lone_percent` meets its contract.
+-- `mend::repairs::lone_percent` meets its contract: the first byte that is no blank tells, and what stands behind it.
 -- Assumes nothing.
-use native.Mathlib.Omega.{arith}
-use Rattle.mend.proofs.Placing.{lone_none, lone_other, lone_more, lone_is}
+use mathlib.Core.Path.{sym, ◌∙◌}
+use Rattle.mend.proofs.Placing.{lone_nowhere, lone_is, lone_other}
 use Rattle.mend.proofs.repairs.lone_percent.Goals as goal
 
-pub returns-then-line-i : goal.returns-then-line-i
-returns-then-line-i c = lone_none c.args.line.now (omega (arith, c.past_blanks-i.ensures))
+pub returns-in-None : goal.returns-in-None
+returns-in-None c = lone_nowhere c.args.line.now (sym c.first_unblank.ensures ∙ c.in-None.is)
 
-pub returns-then-line-i-ne37 : goal.returns-then-line-i-ne37
-returns-then-line-i-ne37 c = lone_other c.args.line.now c.past_blanks-i.result c.past_blanks-i.ensures (omega arith) c.if-line-i-ne37.true
+pub returns-then-line-at-eq37 : goal.returns-then-line-at-eq37
+returns-then-line-at-eq37 c = lone_is c.args.line.now c.in-Some.at (sym c.first_unblank.ensures ∙ c.in-Some.is) c.all_blank.result c.if-line-at-eq37.true c.all_blank.ensures
 
-pub returns-then-end-line : goal.returns-then-end-line
-returns-then-end-line c = lone_more c.args.line.now c.past_blanks-i.result c.past_blanks-i.ensures (omega arith) c.if-line-i-ne37.false (omega (arith, c.past_blanks-end.ensures))
-
-pub returns : goal.returns
-returns c = lone_is c.args.line.now c.past_blanks-i.result c.past_blanks-i.ensures (omega arith) c.if-line-i-ne37.false (omega (arith, c.past_blanks-end.ensures))
+pub returns-else-line-at-eq37 : goal.returns-else-line-at-eq37
+returns-else-line-at-eq37 c = lone_other c.args.line.now c.in-Some.at (sym c.first_unblank.ensures ∙ c.in-Some.is) c.if-line-at-eq37.false

@@ -1,13 +1,10 @@
--- `mend::repairs::remark_at` meets its contract: what stands before i, and before the remark from i on, is what stands before it.
+-- `mend::repairs::remark_at` meets its contract: the first remark from i on is the one asked for.
 -- Assumes nothing.
 use mathlib.Core.Path.{◌≡◌}
-use Prim.Native.Nat.{◌+◌, ◌-◌, ◌≤◌}
-use lib.ListN.{length, drop}
-use Rattle.mend.specs.Places.{remark_at}
+use Prim.Native.Nat.{◌≤◌}
+use lib.ListN.{drop}
+use Rattle.mend.specs.Places.{remark_place}
 use Rattle.mend.proofs.repairs.remark_at.Given as goal
 
 abbrev pub invariant-loop-i : goal.invariant-loop-i
-invariant-loop-i l = (l.d ≤ l.i) × (l.i ≤ length l.line) × (l.i + remark_at l.d (drop l.i l.line) ≡ remark_at 0 l.line)
-
-abbrev pub decreases-loop-i : goal.decreases-loop-i
-decreases-loop-i l = length l.line - l.i
+invariant-loop-i l = (l.d ≤ l.i) × (remark_place l.d l.i (drop l.i l.line) ≡ remark_place 0 0 l.line)

@@ -1,12 +1,11 @@
--- `mend::whole::lay_line` meets its contract.
+-- `mend::whole::lay_line` meets its contract: by what the call for one line answers.
 -- Assumes nothing.
-use mathlib.Core.Bool.{true, false}
-use Rattle.mend.specs.Text.{lays_line}
-use Rattle.mend.proofs.Laying.{room_within, length_by, left_within, laid_by, laid_told}
-use Rattle.mend.specs.declared.line.Mended.{Mended}
-use Rattle.mend.specs.Line.{leaves}
-use mathlib.Core.Path.{sym, ap, ◌∙◌}
+use mathlib.Core.Path.{ap, ◌∙◌}
+use Prim.Native.Nat.{◌+◌}
 use native.Mathlib.Omega.{arith}
+use Rattle.std.specs.Prelude.{Some, None, Ok}
+use Rattle.mend.specs.Text.{lays_line}
+use Rattle.mend.proofs.Laying.{room_within, left_within, afterwards, laid_told}
 use Rattle.mend.proofs.whole.lay_line.Goals as goal
 
 pub slice_bounds-mend_line-count : goal.slice_bounds-mend_line-count
@@ -16,22 +15,24 @@ pub slice_bounds-mend_line-start : goal.slice_bounds-mend_line-start
 slice_bounds-mend_line-start c = room_within c.args.line.now c.args.out.now c.args.from c.requires
 
 pub overflow_add-result : goal.overflow_add-result
-overflow_add-result c = let e = ap (λ (r : Mended). length_by r c.args.line.now) c.in-Better.is in omega (arith, left_within c.args.line.now c.args.out.now c.args.from c.requires (leaves c.mend_line.result c.mend_line.new.out) c.mend_line.ensures)
+overflow_add-result c = omega (arith, left_within c.args.line.now c.args.out.now c.args.from c.requires c.mend_line.new.out _ _ c.mend_line.ensures (c.in-Ok-Better.is ∙ ap Ok c.in-Ok-Better.field-0-is))
 
 pub lay-requires : goal.lay-requires
-lay-requires c = let e = ap (λ (r : Mended). length_by r c.args.line.now) c.in-Already.is in omega (arith, left_within c.args.line.now c.args.out.now c.args.from c.requires (leaves c.mend_line.result c.mend_line.new.out) c.mend_line.ensures, c.out-1.given)
+lay-requires c = omega (arith, left_within c.args.line.now c.args.out.now c.args.from c.requires c.mend_line.new.out _ _ c.mend_line.ensures (c.in-Ok-Already.is ∙ ap Ok c.in-Ok-Already.field-0-is))
 
-pub lay-requires-in-Beyond : goal.lay-requires-in-Beyond
-lay-requires-in-Beyond c = let e = ap (λ (r : Mended). length_by r c.args.line.now) c.in-Beyond.is in omega (arith, left_within c.args.line.now c.args.out.now c.args.from c.requires (leaves c.mend_line.result c.mend_line.new.out) c.mend_line.ensures, c.out-1.given)
+pub lay-requires-in-Ok-Beyond : goal.lay-requires-in-Ok-Beyond
+lay-requires-in-Ok-Beyond c = omega (arith, left_within c.args.line.now c.args.out.now c.args.from c.requires c.mend_line.new.out _ _ c.mend_line.ensures (c.in-Ok-Beyond.is ∙ ap Ok c.in-Ok-Beyond.field-0-is))
 
-pub returns-in-Better : goal.returns-in-Better
-returns-in-Better c = λ tree told. sym (ap (λ (r : Mended). laid_by c.args.line.now c.args.out.now c.args.from c.requires (leaves r c.mend_line.new.out)) c.in-Better.is) ∙ (laid_told c.args.line.now c.args.out.now c.args.from c.requires (leaves c.mend_line.result c.mend_line.new.out) c.mend_line.ensures tree told)
+pub returns-in-Ok-Better : goal.returns-in-Ok-Better
+returns-in-Ok-Better c tree told =
+    (λ i. lays_line (record { filled = c.args.from + c.in-Ok-Better.length; entry = Some (record { byte = c.in-Ok-Better.first; which = c.number.ensures i }) }) (afterwards c.args.line.now c.args.out.now c.args.from c.requires c.mend_line.new.out))
+    ∙ laid_told c.args.line.now c.args.out.now c.args.from c.requires c.mend_line.new.out _ _ c.mend_line.ensures (c.in-Ok-Better.is ∙ ap Ok c.in-Ok-Better.field-0-is) tree told
 
-pub returns-in-Already : goal.returns-in-Already
-returns-in-Already c = λ tree told. (λ i. lays_line (record { filled = c.lay.ensures.0 i; listed = false; byte = 0; which = 0 }) (c.lay.ensures.1 i)) ∙ sym (ap (λ (r : Mended). laid_by c.args.line.now c.args.out.now c.args.from c.requires (leaves r c.mend_line.new.out)) c.in-Already.is) ∙ (laid_told c.args.line.now c.args.out.now c.args.from c.requires (leaves c.mend_line.result c.mend_line.new.out) c.mend_line.ensures tree told)
+pub returns-in-Ok-Already : goal.returns-in-Ok-Already
+returns-in-Ok-Already c tree told = (λ i. lays_line (record { filled = c.lay.ensures.0 i; entry = None }) (c.lay.ensures.1 i)) ∙ laid_told c.args.line.now c.args.out.now c.args.from c.requires c.mend_line.new.out _ _ c.mend_line.ensures (c.in-Ok-Already.is ∙ ap Ok c.in-Ok-Already.field-0-is) tree told
 
-pub returns-in-Beyond : goal.returns-in-Beyond
-returns-in-Beyond c = λ tree told. (λ i. lays_line (record { filled = c.lay-in-Beyond.ensures.0 i; listed = true; byte = 0; which = 0 }) (c.lay-in-Beyond.ensures.1 i)) ∙ sym (ap (λ (r : Mended). laid_by c.args.line.now c.args.out.now c.args.from c.requires (leaves r c.mend_line.new.out)) c.in-Beyond.is) ∙ (laid_told c.args.line.now c.args.out.now c.args.from c.requires (leaves c.mend_line.result c.mend_line.new.out) c.mend_line.ensures tree told)
+pub returns-in-Ok-Beyond : goal.returns-in-Ok-Beyond
+returns-in-Ok-Beyond c tree told = (λ i. lays_line (record { filled = c.lay-in-Ok-Beyond.ensures.0 i; entry = Some (record { byte = 0; which = 0 }) }) (c.lay-in-Ok-Beyond.ensures.1 i)) ∙ laid_told c.args.line.now c.args.out.now c.args.from c.requires c.mend_line.new.out _ _ c.mend_line.ensures (c.in-Ok-Beyond.is ∙ ap Ok c.in-Ok-Beyond.field-0-is) tree told
 
-pub returns-in-NoSpace : goal.returns-in-NoSpace
-returns-in-NoSpace c = λ tree told. sym (ap (λ (r : Mended). laid_by c.args.line.now c.args.out.now c.args.from c.requires (leaves r c.mend_line.new.out)) c.in-NoSpace.is) ∙ (laid_told c.args.line.now c.args.out.now c.args.from c.requires (leaves c.mend_line.result c.mend_line.new.out) c.mend_line.ensures tree told)
+pub returns-in-Err : goal.returns-in-Err
+returns-in-Err c tree told = laid_told c.args.line.now c.args.out.now c.args.from c.requires c.mend_line.new.out _ _ c.mend_line.ensures c.in-Err.is tree told

@@ -1,20 +1,19 @@
 -- `mend::whole::mended_length` meets its contract.
 -- Assumes nothing.
-use Rattle.mend.proofs.Laying.{length_by, long_told}
-use Rattle.mend.specs.declared.line.Mended.{Mended}
-use Rattle.mend.specs.Line.{leaves}
-use mathlib.Core.Path.{sym, ap, ◌∙◌}
+use mathlib.Core.Path.{ap, ◌∙◌}
 use native.Mathlib.Omega.{arith}
+use Rattle.std.specs.Prelude.{Ok}
+use Rattle.mend.proofs.Laying.{long_told}
 use Rattle.mend.proofs.whole.mended_length.Goals as goal
 
-pub returns-in-Already : goal.returns-in-Already
-returns-in-Already c = λ tree told. sym (ap (λ (r : Mended). length_by r c.args.line.now) c.in-Already.is) ∙ long_told c.args.line.now _ (leaves c.mend_line.result c.mend_line.new.out) (omega arith) c.mend_line.ensures tree told
+pub returns-in-Ok-Better : goal.returns-in-Ok-Better
+returns-in-Ok-Better c = long_told c.args.line.now _ c.mend_line.new.out _ _ (omega arith) c.mend_line.ensures (c.in-Ok-Better.is ∙ ap Ok c.in-Ok-Better.field-0-is)
 
-pub returns-in-Better : goal.returns-in-Better
-returns-in-Better c = λ tree told. sym (ap (λ (r : Mended). length_by r c.args.line.now) c.in-Better.is) ∙ long_told c.args.line.now _ (leaves c.mend_line.result c.mend_line.new.out) (omega arith) c.mend_line.ensures tree told
+pub returns-in-Ok-Already : goal.returns-in-Ok-Already
+returns-in-Ok-Already c = long_told c.args.line.now _ c.mend_line.new.out _ _ (omega arith) c.mend_line.ensures (c.in-Ok-Already.is ∙ ap Ok c.in-Ok-Already.field-0-is)
 
-pub returns-in-Beyond : goal.returns-in-Beyond
-returns-in-Beyond c = λ tree told. sym (ap (λ (r : Mended). length_by r c.args.line.now) c.in-Beyond.is) ∙ long_told c.args.line.now _ (leaves c.mend_line.result c.mend_line.new.out) (omega arith) c.mend_line.ensures tree told
+pub returns-in-Ok-Beyond : goal.returns-in-Ok-Beyond
+returns-in-Ok-Beyond c = long_told c.args.line.now _ c.mend_line.new.out _ _ (omega arith) c.mend_line.ensures (c.in-Ok-Beyond.is ∙ ap Ok c.in-Ok-Beyond.field-0-is)
 
-pub returns-in-NoSpace : goal.returns-in-NoSpace
-returns-in-NoSpace c = λ tree told. sym (ap (λ (r : Mended). length_by r c.args.line.now) c.in-NoSpace.is) ∙ long_told c.args.line.now _ (leaves c.mend_line.result c.mend_line.new.out) (omega arith) c.mend_line.ensures tree told
+pub returns-in-Err : goal.returns-in-Err
+returns-in-Err c = long_told c.args.line.now _ c.mend_line.new.out _ _ (omega arith) c.mend_line.ensures c.in-Err.is

@@ -1,10 +1,7 @@
--- `parameters::lines::with_zeros` meets its contract: the zeros passed are in the number.
+-- What the loop of `parameters::lines::with_zeros` keeps: what the zeros that are left write behind the number.
 -- Assumes nothing.
 use Rattle.parameters.proofs.Amounts.{Zeros-to}
 use Rattle.parameters.proofs.lines.with_zeros.Given as goal
 
-abbrev pub invariant-loop-left : goal.invariant-loop-left
-invariant-loop-left l = Zeros-to l.number l.many l.n l.left
-
-abbrev pub decreases-loop-left : goal.decreases-loop-left
-decreases-loop-left l = l.left
+abbrev pub invariant-loop-zero : goal.invariant-loop-zero
+invariant-loop-zero l = Zeros-to l.number l.many l.n l._zero

@@ -5,6 +5,3 @@ use Rattle.parameters.proofs.numerals.decimals_of.Given as goal
 
 abbrev pub invariant-loop-left : goal.invariant-loop-left
 invariant-loop-left l = Cutting l.decimals l.number l.left l.rest
-
-abbrev pub decreases-loop-left : goal.decreases-loop-left
-decreases-loop-left l = l.left

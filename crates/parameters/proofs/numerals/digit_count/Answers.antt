@@ -4,15 +4,6 @@ use native.Mathlib.Omega.{arith}
 use Rattle.parameters.proofs.Puts.{count_one, count_step}
 use Rattle.parameters.proofs.numerals.digit_count.Goals as goal
 
-pub loop-rest-init : goal.loop-rest-init
-loop-rest-init c = (omega arith, omega arith)
-
-pub overflow_add-count : goal.overflow_add-count
-overflow_add-count c = omega arith
-
-pub loop-rest-smaller : goal.loop-rest-smaller
-loop-rest-smaller c = omega arith
-
 pub loop-rest-preserved : goal.loop-rest-preserved
 loop-rest-preserved c = (omega (arith, count_step c.loop-rest.rest (omega arith)), omega arith)
 

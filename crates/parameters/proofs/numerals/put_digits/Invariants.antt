@@ -9,6 +9,3 @@ use Rattle.parameters.proofs.numerals.put_digits.Given as goal
 
 abbrev pub invariant-loop-left : goal.invariant-loop-left
 invariant-loop-left l = (l.left ≤ l.many) × (length l.text ≡ length l.initial.text) × (sets l.text l.at (last l.left l.rest) ≡ sets l.initial.text l.at (last l.many l.number))
-
-abbrev pub decreases-loop-left : goal.decreases-loop-left
-decreases-loop-left l = l.left

@@ -1,23 +1,12 @@
--- `parameters::numerals::whole_part` meets its contract.
+-- `parameters::numerals::whole_part` meets its contract: a digit is dropped in each turn.
 -- Assumes nothing.
-use mathlib.Core.Path.{◌≡◌, refl, sym, ap, ◌∙◌}
-use Prim.Native.Nat.{ℕ}
+use mathlib.Core.Path.{◌≡◌, ◌∙◌}
+use Prim.Native.Nat.{◌+◌, ◌-◌}
 use native.Mathlib.Omega.{arith}
-use Rattle.parameters.specs.Writing.{without}
 use Rattle.parameters.proofs.Puts.{without_step}
 use Rattle.parameters.proofs.numerals.whole_part.Goals as goal
 
-pub loop-left-init : goal.loop-left-init
-loop-left-init c = (refl, omega arith)
-
-pub overflow_sub-left : goal.overflow_sub-left
-overflow_sub-left c = omega arith
-
-pub loop-left-smaller : goal.loop-left-smaller
-loop-left-smaller c = omega arith
-
-pub loop-left-preserved : goal.loop-left-preserved
-loop-left-preserved c = (without_step c.loop-left.left c.loop-left.rest (omega arith) ∙ c.loop-left.invariant.0, omega arith)
-
-pub returns : goal.returns
-returns c = let z : c.loop-left.left ≡ 0 = omega arith in (ap (λ (k : ℕ). without k c.loop-left.rest) (sym z) ∙ c.loop-left.invariant.0, omega arith)
+pub loop-decimal-preserved : goal.loop-decimal-preserved
+loop-decimal-preserved c =
+    let z : c.args.decimals - (c.loop-decimal._decimal + 1) ≡ c.args.decimals - c.loop-decimal._decimal - 1 = omega arith in
+    (rw z (without_step (c.args.decimals - c.loop-decimal._decimal) c.loop-decimal.rest (omega arith)) ∙ c.loop-decimal.invariant.0, omega arith)

@@ -35,9 +35,6 @@ overflow_add-result c =
     let w = number_of_holds c.args.number c.args.amount (c.is_below_zero-negative.ensures ∙ ap minus (back c.args.amount (search rules))) (c.size_of.ensures ∙ ap nat_abs (back c.args.amount (search rules))) c.decimals-places.ensures c.stands_for.ensures in
     omega (arith, c.requires, line_length c.args.number c.args.amount w, c.put_whole-space.ensures.0, c.put_number-end.ensures.0)
 
-pub shape_of-out : goal.shape_of-out
-shape_of-out c = omega (arith, length-set c.put_number-end.new.text c.put_number-end.result 10, length-set c.put_whole-space.new.text c.put_whole-space.result 32)
-
 pub returns : goal.returns
 returns c =
     let w = number_of_holds c.args.number c.args.amount (c.is_below_zero-negative.ensures ∙ ap minus (back c.args.amount (search rules))) (c.size_of.ensures ∙ ap nat_abs (back c.args.amount (search rules))) c.decimals-places.ensures c.stands_for.ensures in

@@ -1,9 +1,5 @@
-use mathlib.Core.List.{[]}
-use Rattle.reader.proofs.Beginning.{mark_long, form_none, form_plain, form_condition}
+use Rattle.reader.proofs.Beginning.{form_none, form_plain, form_condition}
 use Rattle.reader.proofs.mark.mark_end.Goals as goal
-
-pub pass_value-requires : goal.pass_value-requires
-pass_value-requires c = mark_long [] c.args.text.now (rw c.in-Condition.is at c.first_of.ensures)
 
 pub returns-in-Unmarked : goal.returns-in-Unmarked
 returns-in-Unmarked c = form_none c.args.text.now (rw c.in-Unmarked.is at c.first_of.ensures)

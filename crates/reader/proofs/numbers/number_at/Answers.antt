@@ -1,20 +1,10 @@
-use Rattle.reader.proofs.Numerals.{run_on, run_low, point_on, none_at_all, whole_number, point_alone, decimal_number, fine_number}
+use Rattle.reader.proofs.Numerals.{run_on, point_on, none_at_all, whole_number, point_alone, decimal_number, fine_number}
 use native.Mathlib.Omega.{arith}
 use mathlib.Core.Path.{sym, ◌∙◌}
-use borrow.Author.Rules.{rules}
 use Rattle.reader.proofs.numbers.number_at.Goals as goal
-
-pub overflow_add-decimals : goal.overflow_add-decimals
-overflow_add-decimals c = let k = (point_on c.args.text.now c.digits_from-whole.result.next (run_on c.args.text.now c.sign_at-sign.result.next 0 c.sign_at-sign.ensures.within c.digits_from-whole.ensures).1 (sym c.has_point.ensures ∙ c.if-has_point.true)) in search rules
-
-pub digits_from-all-requires : goal.digits_from-all-requires
-digits_from-all-requires c = record { at_in_bounds = (point_on c.args.text.now c.digits_from-whole.result.next (run_on c.args.text.now c.sign_at-sign.result.next 0 c.sign_at-sign.ensures.within c.digits_from-whole.ensures).1 (sym c.has_point.ensures ∙ c.if-has_point.true)); number_bound = run_low c.args.text.now c.sign_at-sign.result.next 0 c.digits_from-whole.ensures }
 
 pub returns-then-all-sign : goal.returns-then-all-sign
 returns-then-all-sign c = point_alone c.args.text.now c.args.at c.sign_at-sign.ensures c.digits_from-whole.ensures (sym c.has_point.ensures ∙ c.if-has_point.true) c.digits_from-all.ensures c.if-all-sign.true
-
-pub digits_before-five-requires : goal.digits_before-five-requires
-digits_before-five-requires c = let k = run_on c.args.text.now _ _ (point_on c.args.text.now c.digits_from-whole.result.next (run_on c.args.text.now c.sign_at-sign.result.next 0 c.sign_at-sign.ensures.within c.digits_from-whole.ensures).1 (sym c.has_point.ensures ∙ c.if-has_point.true)) c.digits_from-all.ensures in record { at_le_end = omega arith; end_in_bounds = omega (arith, k.1, c.if-all-decimals-gt4.true); number_bound = run_low c.args.text.now c.sign_at-sign.result.next 0 c.digits_from-again.ensures }
 
 pub returns-then-all-decimals-gt4 : goal.returns-then-all-decimals-gt4
 returns-then-all-decimals-gt4 c = fine_number c.args.text.now c.args.at c.sign_at-sign.ensures c.digits_from-whole.ensures (sym c.has_point.ensures ∙ c.if-has_point.true) c.digits_from-all.ensures c.if-all-sign.false c.if-all-decimals-gt4.true c.digits_from-again.ensures c.digits_before-five.ensures c.number.ensures
@@ -27,3 +17,6 @@ returns-then-whole-sign c = none_at_all c.args.text.now c.args.at c.sign_at-sign
 
 pub returns : goal.returns
 returns c = whole_number c.args.text.now c.args.at c.sign_at-sign.ensures c.digits_from-whole.ensures (sym c.has_point.ensures ∙ c.if-has_point.false) c.if-whole-sign.false c.number-2.ensures
+
+pub digits_before-five-requires-clause-end_in_bounds : goal.digits_before-five-requires-clause-end_in_bounds
+digits_before-five-requires-clause-end_in_bounds c = let k = run_on c.args.text.now _ _ (point_on c.args.text.now c.digits_from-whole.result.next (run_on c.args.text.now c.sign_at-sign.result.next 0 c.sign_at-sign.ensures.within c.digits_from-whole.ensures).1 (sym c.has_point.ensures ∙ c.if-has_point.true)) c.digits_from-all.ensures in omega (arith, k.1, c.if-all-decimals-gt4.true)

@@ -10,19 +10,19 @@ pub returns-then-text-at : goal.returns-then-text-at
 returns-then-text-at c = following_past c.args.text.now c.args.at c.if-text-at.true c.requires
 
 pub returns-in-93 : goal.returns-in-93
-returns-in-93 c = following_mark c.args.text.now c.args.at c.if-text-at.false 93 close Close refl (λ p. refl) c.in-93.is
+returns-in-93 c = following_mark c.args.text.now c.args.at c.if-text-at.false 93 close Close refl refl c.in-93.is
 
 pub returns-in-43 : goal.returns-in-43
-returns-in-43 c = following_mark c.args.text.now c.args.at c.if-text-at.false 43 (oper Add) (Operator Add) refl (λ p. refl) c.in-43.is
+returns-in-43 c = following_mark c.args.text.now c.args.at c.if-text-at.false 43 (oper Add) (Operator Add) refl refl c.in-43.is
 
 pub returns-in-45 : goal.returns-in-45
-returns-in-45 c = following_mark c.args.text.now c.args.at c.if-text-at.false 45 (oper Sub) (Operator Sub) refl (λ p. refl) c.in-45.is
+returns-in-45 c = following_mark c.args.text.now c.args.at c.if-text-at.false 45 (oper Sub) (Operator Sub) refl refl c.in-45.is
 
 pub returns-in-42 : goal.returns-in-42
-returns-in-42 c = following_mark c.args.text.now c.args.at c.if-text-at.false 42 (oper Mul) (Operator Mul) refl (λ p. refl) c.in-42.is
+returns-in-42 c = following_mark c.args.text.now c.args.at c.if-text-at.false 42 (oper Mul) (Operator Mul) refl refl c.in-42.is
 
 pub returns-in-47 : goal.returns-in-47
-returns-in-47 c = following_mark c.args.text.now c.args.at c.if-text-at.false 47 (oper Div) (Operator Div) refl (λ p. refl) c.in-47.is
+returns-in-47 c = following_mark c.args.text.now c.args.at c.if-text-at.false 47 (oper Div) (Operator Div) refl refl c.in-47.is
 
 pub returns-in-77 : goal.returns-in-77
 returns-in-77 c = following_word c.args.text.now c.args.at c.if-text-at.false 77 (79 ∷ 68 ∷ []) Mod refl c.in-77.is c.keyword.ensures c.operator_after.ensures

@@ -10,10 +10,10 @@ pub returns-then-text-at : goal.returns-then-text-at
 returns-then-text-at c = opening_past c.args.text.now c.args.at c.if-text-at.true c.requires
 
 pub returns-in-35 : goal.returns-in-35
-returns-in-35 c = opening_mark c.args.text.now c.args.at c.if-text-at.false 35 hash Parameter refl (λ p. refl) c.in-35.is
+returns-in-35 c = opening_mark c.args.text.now c.args.at c.if-text-at.false 35 hash Parameter refl refl c.in-35.is
 
 pub returns-in-91 : goal.returns-in-91
-returns-in-91 c = opening_mark c.args.text.now c.args.at c.if-text-at.false 91 bare Bracket refl (λ p. refl) c.in-91.is
+returns-in-91 c = opening_mark c.args.text.now c.args.at c.if-text-at.false 91 bare Bracket refl refl c.in-91.is
 
 pub returns-in-65 : goal.returns-in-65
 returns-in-65 c = opening_word c.args.text.now c.args.at c.if-text-at.false 65 (66 ∷ 83 ∷ 91 ∷ []) Abs refl c.in-65.is c.keyword.ensures c.function_after.ensures

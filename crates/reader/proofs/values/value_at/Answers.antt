@@ -4,6 +4,3 @@ use Rattle.reader.proofs.values.value_at.Goals as goal
 
 pub returns-then-opens_number : goal.returns-then-opens_number
 returns-then-opens_number c = value_number c.args.table.now c.args.text.now c.args.at 24 (sym c.opens_number.ensures ∙ c.if-opens_number.true) c.number_at.ensures c.of_number.ensures
-
-pub returns : goal.returns
-returns c = c.value_in.ensures

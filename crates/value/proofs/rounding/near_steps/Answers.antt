@@ -1,6 +1,6 @@
 -- `value::rounding::near_steps` meets its contract: sizes are rounded, and the sign is put back (`near_is`).
 -- Assumes nothing.
-use Rattle.rules.specs.declared.Near.TheVariants.{To}
+use Rattle.std.specs.Prelude.{Some}
 use Rattle.laws.proofs.Ints.{back}
 use Rattle.value.proofs.Sizes.{near_is, near_none, nearest_fits}
 use native.Mathlib.Omega.{arith}
@@ -17,7 +17,7 @@ pub returns-then-is_near : goal.returns-then-is_near
 returns-then-is_near c =
     let steps = c.signed-steps in
     let t = c in
-    ap To (back steps.result.0 (record { sfits = search rules }) ∙ steps.ensures)
+    ap Some (back steps.result.0 (record { sfits = search rules }) ∙ steps.ensures)
     ∙ near_is _ _ (c.size_of-n.ensures ∙ simp (back c.args.a.0 (record { sfits = search rules }))) t.is_near.ensures
     c.is_below_zero.ensures c.rounded.ensures t.if-is_near.true
 

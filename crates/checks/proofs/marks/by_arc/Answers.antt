@@ -1,9 +1,0 @@
--- `checks::marks::by_arc` meets its contract.
--- Assumes nothing.
-use mathlib.Core.Path.{refl}
-use mathlib.Core.Bool.{or-false}
-use lib.Dec.{eqb}
-use Rattle.checks.proofs.marks.by_arc.Goals as goal
-
-pub returns : goal.returns
-returns c = rw (or-false (eqb c.args.motion 30)) refl

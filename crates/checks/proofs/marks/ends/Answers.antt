@@ -1,8 +1,0 @@
--- `checks::marks::ends` meets its contract.
--- Assumes nothing.
-use mathlib.Core.Path.{refl}
-use mathlib.Core.Bool.{or-false}
-use Rattle.checks.proofs.marks.ends.Goals as goal
-
-pub returns : goal.returns
-returns c = rw or-false refl
