@@ -170,7 +170,8 @@ enum {
 
 /* ---- the call */
 
-/* Bytes of stack to keep free for a call. Measured, on a painted stack (tests/headers/stack.c): 4,224 for a
+/* Bytes of stack to keep free for a call. Measured, on a painted stack with the
+   C library's names bound (tests/headers/stack.c): 4,224 for a
    plain line, and 19,544 at most, for the deepest of 256 bytes, right or wrong (docs/STACK.md). */
 enum {
     RS274_STACK = 24576

@@ -22,7 +22,8 @@ enum {
     RS274_INDEX = 6000         /* how many numbers the space of an index has: three an entry */
 };
 
-/* Bytes of stack to keep free for a call. Measured, on a painted stack (tests/headers/stack.c): some 24,500 to build an
+/* Bytes of stack to keep free for a call. Measured, on a painted stack with the
+   C library's names bound (tests/headers/stack.c): some 24,500 to build an
    index or to replace a line, whatever the text, since both work in a space of their own, so that a refusal alters
    nothing; to find a number takes next to nothing. */
 enum {

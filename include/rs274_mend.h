@@ -36,7 +36,8 @@ enum {
     RS274_REPAIR_NESTED = 4   /* the parentheses within a comment were made square brackets */
 };
 
-/* Bytes of stack to keep free for a call. Measured, on a painted stack (tests/headers/stack.c): some 1,600, whatever
+/* Bytes of stack to keep free for a call. Measured, on a painted stack with the
+   C library's names bound (tests/headers/stack.c): some 1,600, whatever
    the text (docs/STACK.md). */
 enum {
     RS274_MEND_STACK = 3072

@@ -17,7 +17,8 @@ ghost use Rattle.block.specs.Judged.{remaining};
 
 use rules::{Answer, Block, Outcome, Record, Refusal};
 
-// Works the words of a line that was read: the first `count` places of the two slices hold them.
+// Works the words of a line that was read: the first `count` places of the two slices hold them. They lie side by side as the
+// lent spaces have them, and a count beyond them is answered too (`execution`).
 // Whatever they are, and whatever the record and the output space are, what is left is what the
 // rules say.
 pub fn execute(
@@ -65,7 +66,8 @@ fn worked(
 }
 
 // Numbers 10 to 15, and the work of a line that none of them refuses. Nothing is written before all
-// of them are known.
+// of them are known. What is known of the line's words and of the record stays in clauses here and in the functions below:
+// tests made on the way show one after the other, so types for them would be made anew at each.
 fn work(b: Block, rec: Record, out: &mut [i64]) -> Result<Outcome, Refusal>
     requires ranged { Ranged b }
     requires rec_value { in_order rec ≡ true }

@@ -10,7 +10,7 @@ use reader::{Read, Spaces, Unread};
 use rules::{Answer, Outcome, Record, Refusal, Report, Value};
 
 // Works one line. Whatever the line, the record, the table and the output space are, what is left
-// is what the rules say.
+// is what the rules say. They stay parameters, one by one: `Right` speaks of each.
 pub fn interpret(
     line: &[u8],
     switch: bool,
@@ -174,6 +174,7 @@ fn set_entries(answer: Answer, numbers: &[usize], amounts: &[i64], count: usize,
     }
 }
 
+// The settings lie as the lent spaces have them; where the count is more than there are, all that are there are set.
 fn set_all(numbers: &[usize], amounts: &[i64], count: usize, table: &mut [i64])
     ensures { table.new ≡ apply (settings_of (take count numbers.now) (take count amounts.now)) table.old }
 {

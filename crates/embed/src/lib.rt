@@ -112,7 +112,7 @@ fn up_to(high: u16, number: i64) -> bool
 }
 
 // The record that the numbers stand for. (No `From`: record and numbers are other crates' types. No `TryFrom` either, of
-// a type of this crate: the stack that the header promises for a line has no room for one record more.)
+// a type of this crate: that would be one record more on the stack, and no plainer.)
 fn unpack(rec: &[i64]) -> Record
     requires { holdable rec.now ≡ true }
     ensures { result ≡ unpacked rec.now }
@@ -163,7 +163,7 @@ fn small_at(rec: &[i64], at: usize) -> u8
     rec[at] as u8
 }
 
-// Puts the record as numbers.
+// Puts the record as numbers, into what C lends: a slice, since C may lend any number of them.
 fn pack(r: &Record, rec: &mut [i64])
     requires { length rec.old ≡ 43 }
     ensures { rec.new ≡ packed r.now }

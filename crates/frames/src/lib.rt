@@ -72,7 +72,8 @@ fn fields_used(kind: u64) -> usize
     }
 }
 
-// Puts so many fields, which start at a place of the numbers, ten digits each.
+// Puts so many fields, which start at a place of the numbers, ten digits each. (Text and place stay two: a struct that holds a
+// lent space has to promise in every clause that it still holds the same one.)
 fn put_fields(out: &[i64], first: usize, many: usize, text: &mut [u8], at: usize)
     requires { (first + many ≤ length out.now) × (at + 10 * many ≤ length text.old) }
     ensures { text.new ≡ sets text.old at (fields (take many (drop first out.now))) }
@@ -151,7 +152,7 @@ fn accepted(many: usize, out: &[i64], text: &mut [u8], at: usize) -> Option<usiz
     Some(at + size)
 }
 
-// Puts the frame of a refusal that has room.
+// Puts the frame of a refusal that has room. It is the number that is written, so it is taken as one.
 fn put_refusal(number: u8, text: &mut [u8], at: usize)
     requires { at + 13 ≤ length text.old }
     ensures { text.new ≡ sets text.old at (refusal_frame number) }

@@ -45,7 +45,8 @@ fn seek(entries: &[Entry], n: u32) -> Option<Place>
     }
 }
 
-// What the old line bears, put right.
+// What the old line bears, put right. (The text and what is behind the line, what the two lines bear, the line's number and the
+// entries: no two of them travel together any further.)
 fn move_old(
     text: Text,
     next: usize,
@@ -113,7 +114,7 @@ fn update(text: Text, old: Line, k: u32, line: &[u8], entries: &mut Entries)
 }
 
 // Replaces line k, from 1, by another of equal length without a line end, and brings the index up to date. The
-// index has `count` entries.
+// index has `count` entries: C lends the array, and gives the count beside it.
 pub fn replace(
     text: &mut [u8],
     index: &mut [Entry; 2000],

@@ -18,7 +18,7 @@ pub struct Tally {
 }
 
 // What is listed of a line behind its number: the first byte that differs, from 1, and the repairs as one number; both
-// are 0 where the line is unmended.
+// are 0 where the line is unmended: as the list has them, which C lends.
 #[derive(Clone, Copy)]
 struct Listed {
     byte: usize,

@@ -121,7 +121,8 @@ fn number_in(text: &[u8]) -> Option<Parts>
     })
 }
 
-// A number with one digit more, held at ten thousand million, which is past every range.
+// A number with one digit more, held at ten thousand million, which is past every range. (As inside `reader`, which asks for a
+// digit, and so needs no saturation; one for both would be no plainer.)
 fn with_digit(number: u64, digit: u8) -> u64
     ensures { result ≡ min 10000000000 (number * 10 + (digit - byte "0")) }
 {

@@ -15,7 +15,7 @@ struct Decimals {
     rest: u64,
 }
 
-// How many digits a number has.
+// How many digits a number has. (By steps: 0 has a digit too, of which the library's logarithm knows nothing.)
 fn digit_count(number: u64) -> usize
     ensures { (result ≡ length (digits_of number)) × (result ≤ number + 1) }
 {

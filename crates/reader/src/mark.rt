@@ -21,7 +21,8 @@ enum First {
 }
 
 // What the mark leaves to the reading of the items: the work of its condition, whether that nests too
-// deep, and why it stops the line, where it does.
+// deep, and why it stops the line, where it does. Too deep a nesting stands apart: it comes before every other reason, whichever
+// is met first.
 #[derive(Clone, Copy)]
 pub(crate) struct Begun {
     pub(crate) work: u64,

@@ -66,7 +66,7 @@ fn sign_at(text: &[u8], at: usize) -> Signed
     }
 }
 
-// The number with one digit more.
+// The number with one digit more. (Its bound stays a clause: a type for it would be opened again at every digit.)
 fn with_digit(number: u64, digit: u8) -> u64
     requires number_bound { number ≤ 10000000000 }
     requires le_digit { 48 ≤ digit }

@@ -5,8 +5,7 @@ ghost use Rattle.reader.specs.Reading.{spaces, zeros};
 use rules::Value;
 
 // The letters and the values of words, the parameter numbers and the values of settings. Four arrays, not
-// two of words and settings: so a letter takes one byte and not eight, as the stack promised for rs274_line
-// needs it (RS274_STACK).
+// two of words and settings: so a letter takes one byte of the stack and not eight.
 #[derive(Drop)]
 pub struct Spaces {
     pub letters: [u8; 128],

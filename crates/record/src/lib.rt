@@ -27,7 +27,8 @@ pub fn fresh() -> Record
     }
 }
 
-// Whether every field is in its range.
+// Whether every field is in its range. Modes, spindle and coolant are numbers and no enums, since a record from outside
+// may hold any, and each is answered here (number 1).
 pub fn in_order(r: Record) -> bool
     ensures { result ≡ in_order r }
 {

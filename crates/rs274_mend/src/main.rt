@@ -74,7 +74,7 @@ fn say_list(rt: &impl Eprint, list: &[usize], listed: usize, before: u64) {
 }
 
 // Mends the lines of the bytes up to a place, writes them, and then their list. How many lines are mended by then; or nothing,
-// where the program stops, and has said why.
+// where the program stops, and has said why: at once, since the list follows also where the lines cannot be written.
 fn mend_lines(
     rt: &(impl Print + Eprint),
     end: usize,

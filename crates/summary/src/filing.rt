@@ -44,7 +44,7 @@ impl Filed {
         None
     }
 
-    // The code of a group, at the group's key.
+    // The code of a group, at the group's key. (`CodesIn` stays a clause, since `keep` takes any entry.)
     fn code(&self, key: u8) -> Option<u16>
         requires le_key { 32 ≤ key }
         requires key_bound { key < 64 }

@@ -11,7 +11,8 @@ use filing::Filed;
 use rules::Block;
 use text::bytes::is_letter;
 
-// What numbers 8 and 9 ask is beside the block: a code is not served; something stands twice.
+// What numbers 8 and 9 ask is beside the block: a code is not served; something stands twice. Two answers and no
+// `Result`, since the ordered list asks them one by one.
 #[derive(Clone, Copy)]
 pub struct Summary {
     pub block: Block,
@@ -19,7 +20,7 @@ pub struct Summary {
     pub doubled: bool,
 }
 
-// The first `count` places of the two slices hold the words. A word of a letter that no line gives is passed over.
+// The first `count` places of the two slices hold the words (side by side, as the lent spaces of crate `reader` have them). A word of a letter that no line gives is passed over.
 pub fn summarize(letters: &[u8], values: &[i64], count: usize) -> Summary
     ensures { result ≡ summary_of (lettered (said (take count letters.now) (take count values.now))) }
 {
