@@ -22,10 +22,9 @@ enum {
     RS274_INDEX = 6000         /* how many numbers the space of an index has: three an entry */
 };
 
-/* Bytes of stack to keep free for a call. Measured, on a painted stack with the
-   C library's names bound (tests/headers/stack.c): some 24,500 to build an
-   index or to replace a line, whatever the text, since both work in a space of their own, so that a refusal alters
-   nothing; to find a number takes next to nothing. */
+/* Bytes of stack to keep free for a call, measured as those of rs274.h are, and with what is said there of a first call:
+   some 24,500 to build an index or to replace a line, whatever the text, since both work in a space of their own, so
+   that a refusal alters nothing; to find a number takes next to nothing. */
 enum {
     RS274_INDEX_STACK = 32768
 };

@@ -36,9 +36,8 @@ enum {
     RS274_REPAIR_NESTED = 4   /* the parentheses within a comment were made square brackets */
 };
 
-/* Bytes of stack to keep free for a call. Measured, on a painted stack with the
-   C library's names bound (tests/headers/stack.c): some 1,600, whatever
-   the text (docs/STACK.md). */
+/* Bytes of stack to keep free for a call, measured as those of rs274.h are, and with what is said there of a first call:
+   some 1,600, whatever the text (docs/STACK.md). */
 enum {
     RS274_MEND_STACK = 3072
 };

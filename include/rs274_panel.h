@@ -25,9 +25,9 @@ enum {
     RS274_WRONG = RS274_REFUSED_FORM       /* 3: of wrong form */
 };
 
-/* Bytes of stack to keep free for a call. Measured, on a painted stack with the
-   C library's names bound (tests/headers/stack.c): some 330, whatever
-   the line: a value within a value is no call within a call here (docs/STACK.md). */
+/* Bytes of stack to keep free for a call, a first one also, since this library calls nothing of the C library. Measured,
+   on a painted stack (tests/headers/stack.c): some 330, whatever the line: a value within a value is no call within a
+   call here (docs/STACK.md). */
 enum {
     RS274_FORM_STACK = 1024
 };

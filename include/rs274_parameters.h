@@ -14,7 +14,8 @@
 
 enum {
     RS274_FILE = 84393,     /* the most bytes that a written file has */
-    RS274_FILE_STACK = 2048 /* bytes of stack to keep free for a call, measured as those of rs274.h are */
+    RS274_FILE_STACK = 2048 /* bytes of stack to keep free for a call, measured as those of rs274.h are, and with what
+                               is said there of a first call */
 };
 
 /* What a file is refused with. Of a file that is read it is the first line's that has one, and the lowest of that line. */
