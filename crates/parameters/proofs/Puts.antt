@@ -17,7 +17,7 @@ use Rattle.frames.proofs.Stores.{sets_append, set_behind}
 use Rattle.parameters.specs.Places.{before, trimmed}
 use Rattle.parameters.specs.Writing.{last_digit, digits_in, digits_of, without, last, fraction, sign_of, shortest}
 use Rattle.parameters.specs.Text.{Cut}
-use Rattle.parameters.proofs.Digits.{last_length}
+use Rattle.parameters.proofs.Digits.{last_length, trim_short}
 
 -- ---- counted
 enough : (k j n : ℕ) → n < k → n < j → digits_in k n ≡ digits_in j n
@@ -135,6 +135,16 @@ whole_put l at n e h = (ap (λ (k : ℕ). at + k) e, h ∙ ap (sets l at) (ap (�
 -- the text of the decimals
 abbrev pub decimals_text : ℕ → ℕ → List ℕ
 decimals_text k n = write_fraction (fraction (trimmed (last k n)))
+
+fraction_of : (ds : List ℕ) → 1 ≤ length ds → write_fraction (fraction ds) ≡ byte "." ∷ ds
+fraction_of [] h = absurd (omega arith)
+fraction_of (d ∷ ds) h = refl
+
+pub fraction_size : {k n count rest : ℕ} → Cut k n count rest → (count ≡ 0 → ⊥) → length (decimals_text k n) ≡ suc count
+fraction_size {k} {n} {count} {rest} c h = ap length (fraction_of (trimmed (last k n)) (omega (arith, c.many))) ∙ ap suc (sym c.many)
+
+pub fraction_small : {k n count rest : ℕ} → Cut k n count rest → count ≤ k
+fraction_small {k} {n} {count} {rest} c = omega (arith, c.many, trim_short (last k n), last_length k n)
 
 -- the text of a number by its parts
 pub size_of : (b : Bool) (n : ℕ) → nat_abs (signed b n) ≡ n

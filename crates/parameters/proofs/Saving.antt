@@ -143,7 +143,7 @@ module _ (r : Record) (table : List ℤ) (out : List ℕ) where
       let p : sets out 0 (file r table) ≡ file r table ++ drop (length (file r table)) out = sets-eq (file r table) out 0 (omega arith) ∙ (let z : 0 + length (file r table) ≡ length (file r table) = omega arith in rw z) in
       rw (d, t, le-ltb (length out) (length (file r table)) l) (rw (e, g, p))
 
-few_decimals : (p : Place) → decimals p ≤ 5
+pub few_decimals : (p : Place) → decimals p ≤ 5
 few_decimals (entry n) = omega arith
 few_decimals (offset i) = omega arith
 few_decimals (origin i) = omega arith

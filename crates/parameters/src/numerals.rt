@@ -16,7 +16,7 @@ struct Decimals {
 }
 
 // How many digits a number has. (By steps: 0 has a digit too, of which the library's logarithm knows nothing.)
-fn digit_count(number: u64) -> usize
+pub(crate) fn digit_count(number: u64) -> usize
     ensures { (result ≡ length (digits_of number)) × (result ≤ number + 1) }
 {
     let mut rest = number;
@@ -130,4 +130,31 @@ pub(crate) fn put_number(
     let first = put_sign(negative, size, text, at);
     let point = put_whole(whole_part(size, decimals), text, first);
     put_fraction(size, decimals, text, point)
+}
+
+// How long the sign of a number of that sign and size is: zero has none.
+fn sign_size(negative: bool, size: u64) -> usize
+    ensures { (result ≡ length (spell_sign (sign_of (minus (signed negative size))))) × (result ≤ 1) }
+{
+    if negative && size != 0 { 1 } else { 0 }
+}
+
+// How long the point and the decimals are, where there are any.
+fn fraction_size(number: u64, decimals: usize) -> usize
+    requires { decimals ≤ 5 }
+    ensures { (result ≡ length (write_fraction (fraction (trimmed (last decimals number))))) × (result ≤ 6) }
+{
+    match decimals_of(number, decimals).count {
+        0 => 0,
+        count => 1 + count,
+    }
+}
+
+// How long a number in shortest decimals is: counted, with nothing put.
+pub(crate) fn number_size(negative: bool, size: u64, decimals: usize) -> usize
+    requires { (decimals ≤ 5) × (size ≤ 1000000000) }
+    ensures { (result ≡ length (write_number (shortest decimals (signed negative size)))) × (result ≤ 1000000010) }
+{
+    let whole = digit_count(whole_part(size, decimals));
+    sign_size(negative, size) + whole + fraction_size(size, decimals)
 }

@@ -5,7 +5,7 @@ ghost use Rattle.rules.specs.Reach.{at};
 ghost use Rattle.rules.specs.Promise.{disorder};
 ghost use Rattle.parameters.specs.Writing.{held, said, line_for, file, all_in_range, saved_as, saved};
 
-use super::numerals::{put_number, put_whole};
+use super::numerals::{digit_count, number_size, put_number, put_whole};
 use super::places::{Place, decimals, stands_for};
 use super::refusal::FileRefusal;
 use rules::{Length, Record, Value};
@@ -46,13 +46,15 @@ fn put_line(number: usize, amount: i64, out: &mut [u8], at: usize) -> usize
     end + 1
 }
 
-// How long the line of a number is, with its line feed: as long as it is when it is put. No line has 32 bytes.
+// How long the line of a number is, with its line feed. No line has more than 32 bytes.
 fn line_size(number: usize, amount: i64) -> usize
     requires { (number ≤ 5399) × (nat_abs amount ≤ 1000000000) }
     ensures { (result ≡ length (line_for number amount)) × (result ≤ 32) }
 {
-    let mut line = [0; 32];
-    put_line(number, amount, &mut line, 0)
+    let negative = value::is_below_zero(Value(amount));
+    let places = decimals(stands_for(number));
+    let size = number_size(negative, value::size_of(amount), places);
+    digit_count(number as u64) + 1 + size + 1
 }
 
 impl Session<'_> {
