@@ -1,6 +1,7 @@
 // One line of a text replaced by another of equal length, and the index brought up to date by what the two
 // lines bear: a number's next line is looked for only where the old line was its first.
 ghost use Rattle.std.specs.Prelude.{◌≡◌, ◌||◌, ◌+◌, ◌≤◌, ◌<◌, length, drop, slice_range};
+ghost use Rattle.std.proofs.Math.Seq.{paste};
 ghost use Rattle.grammar.specs.Bytes.{byte, among};
 ghost use Rattle.texts.specs.Ends.{pieces};
 ghost use Rattle.texts.proofs.Rightness.{model};
@@ -113,6 +114,16 @@ fn update(text: Text, old: Line, k: u32, line: &[u8], entries: &mut Entries)
     enter_new(is, k, old.start as u32, entries);
 }
 
+// The line's bytes, written into the text. One by one: as a copy of a slice they would make the library for C need memmove.
+fn write_line(text: &mut [u8], at: usize, line: &[u8])
+    requires { at + length line.now ≤ length text.old }
+    ensures { text.new ≡ paste text.old at line.now (length line.now) }
+{
+    for (i, byte) in line.iter().enumerate() {
+        text[at + i] = *byte;
+    }
+}
+
 // Replaces line k, from 1, by another of equal length without a line end, and brings the index up to date. The
 // index has `count` entries: C lends the array, and gives the count beside it.
 pub fn replace(
@@ -133,6 +144,6 @@ pub fn replace(
     entries.take_in(&index[..count.min(2000)]);
     update(short, old, k, line, &mut entries);
     let left = entries.hand_over(index)?;
-    text[old.start..old.end].copy_from_slice(line);
+    write_line(text, old.start, line);
     Ok(left)
 }

@@ -1,10 +1,10 @@
 -- `index::replacing::replace` meets its contract: 30, 32, 33 and 31 in that order, and then the index brought up to date.
 -- Assumes nothing.
-use mathlib.Core.Path.{◌≡◌, refl, sym, ap, ◌∙◌}
-use Prim.Native.Nat.{ℕ, ◌-◌, ◌≤◌}
+use mathlib.Core.Path.{◌≡◌, sym, ap, ◌∙◌}
+use Prim.Native.Nat.{ℕ, ◌≤◌}
+use native.Mathlib.Omega.{arith}
 use lib.ListN.{length, take}
 use Rattle.std.proofs.lemmas.Result.{err_from_is_err_and}
-use Rattle.std.proofs.lemmas.Slice.{put_mid-paste}
 use Rattle.index.proofs.Handing.{entries_of, replaced_30, replaced_not, same_length, replaced_31, replaced_0}
 use Rattle.index.proofs.replacing.replace.Goals as goal
 
@@ -27,11 +27,15 @@ returns-in_err-left c =
     let w = rw c.in_ok-short.ensures at c.in_ok-old.ensures in
     rw (p.1, p.2) (replaced_31 c.args.text.now c.args.index.now c.args.count c.args.k c.args.line.now (rw c.in_ok-short.ensures at h) w.0 w.1 (rw (b, c.in_ok-short.ensures) at c.update.ensures) c.in_err-left.ensures.index (sym c.in_err-left.ensures.answer))
 
+pub write_line-requires : goal.write_line-requires
+write_line-requires c =
+    let h : length c.in_ok-short.short.bytes.now ≤ 60000 = c.in_ok-short.short.short in
+    let w = rw c.in_ok-short.ensures at c.in_ok-old.ensures in
+    omega (arith, w.0.from, w.0.behind, w.0.within, same_length c.args.text.now c.args.index.now c.args.count c.args.k c.args.line.now (rw c.in_ok-short.ensures at h) w.0 w.1)
+
 pub returns : goal.returns
 returns c =
     let h : length c.in_ok-short.short.bytes.now ≤ 60000 = c.in_ok-short.short.short in
     let b : c.take_in.new.self ≡ take c.args.count c.args.index.now = c.take_in.ensures ∙ ap (λ (x : ℕ). take x c.args.index.now) c.min.ensures ∙ entries_of c.args.index.now c.args.count c.told-index in
     let w = rw c.in_ok-short.ensures at c.in_ok-old.ensures in
-    let l = same_length c.args.text.now c.args.index.now c.args.count c.args.k c.args.line.now (rw c.in_ok-short.ensures at h) w.0 w.1 in
-    replaced_0 c.args.text.now c.args.index.now c.args.count c.args.k c.args.line.now (rw c.in_ok-short.ensures at h) w.0 w.1 (rw (b, c.in_ok-short.ensures) at c.update.ensures) c.in_ok-left.ensures.index (sym c.in_ok-left.ensures.answer)
-    (put_mid-paste c.in_ok-old.old.start (c.in_ok-old.old.end - c.in_ok-old.old.start) c.args.text.now c.copy_from_slice.new.self c.args.line.now (length c.args.line.now) c.copy_from_slice.ensures.after l refl)
+    replaced_0 c.args.text.now c.args.index.now c.args.count c.args.k c.args.line.now (rw c.in_ok-short.ensures at h) w.0 w.1 (rw (b, c.in_ok-short.ensures) at c.update.ensures) c.in_ok-left.ensures.index (sym c.in_ok-left.ensures.answer) c.write_line.ensures
