@@ -56,6 +56,10 @@ spot_ok es i n e = (grind (arith, nat_tests), (grind (arith, nat_tests), grind (
 pub spot_err : (es : List Entry) (i n : ℕ) {j : ℕ} → spot es i n ≡ Err j → (j ≡ i) × ¬ Has es i n
 spot_err es i n e = (grind (arith, nat_tests), λ w. grind (arith, nat_tests))
 
+-- what it found is one of them
+pub spot_inside : (es : List Entry) (i n : ℕ) {j : ℕ} → Ok j ≡ spot es i n → j < length es
+spot_inside es i n e = let w = spot_ok es i n (sym e) in omega (arith, w.0, w.1.0)
+
 -- the place that it found, or that there is none
 pub spot_place : (es : List Entry) (i n : ℕ) {j : ℕ} → Ok j ≡ spot es i n → Some (nth es j).place ≡ found_at es i n
 spot_place es i n e = grind (arith, nat_tests)
@@ -82,7 +86,7 @@ module _ (es : List Entry) (n : ℕ) {i : ℕ} where
     same = (spot_ok es (before n es) n (sym e)).0
 
     pub spot_within : i < length es
-    spot_within = omega (arith, same, there.0)
+    spot_within = spot_inside es (before n es) n e
 
     -- the entry is there, and is written over
     pub put_over : (p : Place) → set es i (record { number = n; place = p }) ≡ put n (Some p) es

@@ -1,4 +1,5 @@
 pub mod Entries
+pub mod Numbers
 pub mod Holding
 pub mod Shifting
 pub mod Halving

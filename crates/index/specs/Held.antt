@@ -1,7 +1,27 @@
--- The entries of an index, asked for a number, and what a call leaves of an index.
+-- The entries of an index, as they are held in memory and asked for a number, and what a call leaves of an index.
 -- Assumes nothing.
-use Rattle.std.specs.Prelude.{Bool, false, cond, List, [], ◌∷◌, ◌++◌, ℕ, zero, suc, ◌+◌, ◌-◌, ◌/◌, eqb, ltb, length, drop, get_or, Option, None, Some, Result, Ok, Err}
+use Rattle.std.specs.Prelude.{Bool, false, cond, List, [], ◌∷◌, ◌++◌, ℕ, zero, suc, ◌+◌, ◌-◌, ◌*◌, ◌/◌, eqb, ltb, length, take, drop, get_or, Option, None, Some, Result, Ok, Err}
 use Rattle.index.specs.Index.{Place, place, Entry, Refusal, TooManyNumbers, Indexed, index_most}
+
+-- ---- in memory: "three numbers each, the N number, its first line and that line's first byte"
+
+-- the entries that numbers hold: one or two numbers at the end are none
+abbrev pub held : List ℕ → List Entry
+held [] = []
+held (n ∷ []) = []
+held (n ∷ k ∷ []) = []
+held (n ∷ k ∷ at ∷ l) = record { number = n; place = place k at } ∷ held l
+
+-- the first entries of a space: so many, or all that it has
+abbrev pub kept : List ℕ → ℕ → List Entry
+kept space count = held (take (3 * count) space)
+
+-- and the numbers that hold entries
+abbrev pub flat : List Entry → List ℕ
+flat [] = []
+flat (e ∷ es) = e.number ∷ e.place.line ∷ e.place.start ∷ flat es
+
+-- ---- entry by entry
 
 abbrev pub blank : Entry
 blank = record { number = 0; place = place 0 0 }
@@ -48,21 +68,21 @@ sought es n = found_at es (searched es n) n
 pub record After : Type 0 where
   pub answer : Result ℕ Refusal
   pub text : List ℕ
-  pub index : List Entry
+  pub index : List ℕ
 
-abbrev pub after : Result ℕ Refusal → List ℕ → List Entry → After
+abbrev pub after : Result ℕ Refusal → List ℕ → List ℕ → After
 after a text index = record { answer = a; text = text; index = index }
 
 -- the entries from the front on; what lies past them stays as it was
-abbrev pub over : List Entry → List Entry → List Entry
-over es old = es ++ drop (length es) old
+abbrev pub over : List Entry → List ℕ → List ℕ
+over es old = flat es ++ drop (length (flat es)) old
 
 -- a refusal leaves the index as it was
-abbrev pub ended : Option Refusal → List ℕ → List Entry → List Entry → After
+abbrev pub ended : Option Refusal → List ℕ → List Entry → List ℕ → After
 ended None text es old = after (Ok (length es)) text (over es old)
 ended (Some e) text es old = after (Err e) text old
 
-abbrev pub afterwards : Indexed → List Entry → After
+abbrev pub afterwards : Indexed → List ℕ → After
 afterwards x old = ended x.refusal x.text x.entries old
 
 -- ---- entries handed over, unless they are more than an index may have
@@ -70,5 +90,5 @@ afterwards x old = ended x.refusal x.text x.entries old
 abbrev pub answer_of : List Entry → Result ℕ Refusal
 answer_of es = cond (ltb index_most (length es)) (Err TooManyNumbers) (Ok (length es))
 
-abbrev pub handed : List Entry → List Entry → List Entry
+abbrev pub handed : List Entry → List ℕ → List ℕ
 handed es old = cond (ltb index_most (length es)) old (over es old)

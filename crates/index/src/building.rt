@@ -5,7 +5,7 @@ ghost use Rattle.index.specs.Update.{added};
 ghost use Rattle.index.specs.Space.{Gathered, Builds};
 
 use super::lines::Text;
-use super::space::{BLANK, Entries, search};
+use super::space::{Entries, search};
 use super::{Entry, Place, Refusal};
 use reader::line_number;
 use texts::Pieces;
@@ -36,7 +36,7 @@ fn gather(text: Text, entries: &mut Entries)
             start: start as u32,
         };
         note(entries, line_number(piece.line), place);
-        if 2000 < entries.held().len() {
+        if 2000 < entries.len() {
             return;
         }
         line += 1;
@@ -45,12 +45,12 @@ fn gather(text: Text, entries: &mut Entries)
 }
 
 // Builds the index of a text in a space of its own, and hands it over where it is no longer than an index may be.
-pub fn build(text: &[u8], index: &mut [Entry; 2000]) -> Result<usize, Refusal>
+pub fn build(text: &[u8], index: &mut [u32; 6000]) -> Result<usize, Refusal>
     ensures { Builds text.now index.old result index.new }
 {
     let text = Text::new(text)?;
     let mut entries = Entries {
-        space: [BLANK; 2002],
+        space: [0; 6006],
         count: 0,
     };
     gather(text, &mut entries);

@@ -6,13 +6,14 @@ ghost use Rattle.grammar.specs.Bytes.{byte, among};
 ghost use Rattle.texts.specs.Ends.{pieces};
 ghost use Rattle.texts.proofs.Rightness.{model};
 ghost use Rattle.index.specs.Index.{first_from};
+ghost use Rattle.index.specs.Held.{held};
 ghost use Rattle.index.specs.Update.{seek, moved, entered, brought};
 ghost use Rattle.index.specs.Lines.{LineAt, Fitting};
 ghost use Rattle.index.specs.Space.{Replaces};
 
 use super::lines::{Line, Text, line_of};
-use super::space::{BLANK, Entries, scan};
-use super::{Entry, Place, Refusal};
+use super::space::{Entries, entry_at, scan};
+use super::{Place, Refusal};
 use reader::line_number;
 use texts::Pieces;
 
@@ -37,11 +38,11 @@ fn first_line(text: Text, from: usize, k: u32, n: u32) -> Option<Place>
 }
 
 // The place of n, one entry after the other.
-fn seek(entries: &[Entry], n: u32) -> Option<Place>
-    ensures { result ≡ seek n entries.now }
+fn seek(numbers: &[u32], n: u32) -> Option<Place>
+    ensures { result ≡ seek n (held numbers.now) }
 {
-    match scan(entries, n) {
-        Ok(i) => Some(entries[i].place),
+    match scan(numbers, n) {
+        Ok(i) => Some(entry_at(numbers, i).place),
         Err(_) => None,
     }
 }
@@ -128,7 +129,7 @@ fn write_line(text: &mut [u8], at: usize, line: &[u8])
 // index has `count` entries: C lends the array, and gives the count beside it.
 pub fn replace(
     text: &mut [u8],
-    index: &mut [Entry; 2000],
+    index: &mut [u32; 6000],
     count: usize,
     k: u32,
     line: &[u8],
@@ -138,10 +139,10 @@ pub fn replace(
     let short = Text::new(text)?;
     let old = fitting(short.bytes, k, line)?;
     let mut entries = Entries {
-        space: [BLANK; 2002],
+        space: [0; 6006],
         count: 0,
     };
-    entries.take_in(&index[..count.min(2000)]);
+    entries.take_in(&index[..3 * count.min(2000)]);
     update(short, old, k, line, &mut entries);
     let left = entries.hand_over(index)?;
     write_line(text, old.start, line);

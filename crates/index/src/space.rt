@@ -1,23 +1,46 @@
-// The entries of an index: asked for a number, whatever they are, and one put in, put right or taken out.
-ghost use Rattle.std.specs.Prelude.{◌≡◌, List, ◌≤◌, ◌<◌, length, take, slice_set};
+// The numbers of an index, three an entry: asked for a number, whatever they are, and an entry put in, put right or taken out.
+ghost use Rattle.std.specs.Prelude.{◌≡◌, List, ◌≤◌, ◌<◌, length, slice_set};
 ghost use Rattle.std.specs.List.{insert, remove};
 ghost use Rattle.index.specs.Index.{put};
-ghost use Rattle.index.specs.Held.{before, spot, searched, answer_of, handed};
+ghost use Rattle.index.specs.Held.{held, kept, flat, nth, before, spot, searched, answer_of, handed};
 ghost use Rattle.index.specs.declared.Entry.{Entry};
 
 use super::{Entry, Place, Refusal};
 use std::marker::Model;
 
+// How many entries these numbers are.
+#[tactic(auto, using(crate::proofs::Numbers::held_long))]
+fn count_in(numbers: &[u32]) -> usize
+    ensures { result ≡ length (held numbers.now) }
+{
+    numbers.len() / 3
+}
+
+// Entry i of these numbers, from 0.
+#[tactic(auto, using(crate::proofs::Numbers::held_long))]
+pub(crate) fn entry_at(numbers: &[u32], i: usize) -> Entry
+    requires { i < length (held numbers.now) }
+    ensures { result ≡ nth (held numbers.now) i }
+{
+    Entry {
+        number: numbers[3 * i],
+        place: Place {
+            line: numbers[3 * i + 1],
+            start: numbers[3 * i + 2],
+        },
+    }
+}
+
 // How many of the entries have a number below n, by halving, where they rise. The loop is written out, since
 // `find` answers as `searched` says on any entries, and the binary search of std on those alone that are sorted.
-fn first_from(entries: &[Entry], n: u32) -> usize
-    ensures { result ≡ searched entries.now n }
+fn first_from(numbers: &[u32], n: u32) -> usize
+    ensures { result ≡ searched (held numbers.now) n }
 {
     let mut low: usize = 0;
-    let mut high: usize = entries.len();
+    let mut high: usize = count_in(numbers);
     while low < high {
         let middle = low + (high - low) / 2;
-        if entries[middle].number < n {
+        if entry_at(numbers, middle).number < n {
             low = middle + 1;
         } else {
             high = middle;
@@ -27,101 +50,112 @@ fn first_from(entries: &[Entry], n: u32) -> usize
 }
 
 // How many entries come before the first whose number is not below n, one by one: the entries need not rise.
-fn below(entries: &[Entry], n: u32) -> usize
-    ensures { result ≡ before n entries.now }
+fn below(numbers: &[u32], n: u32) -> usize
+    ensures { result ≡ before n (held numbers.now) }
 {
-    for (i, entry) in entries.iter().enumerate() {
-        if n <= entry.number {
+    let count = count_in(numbers);
+    for i in 0..count {
+        if n <= entry_at(numbers, i).number {
             return i;
         }
     }
-    entries.len()
+    count
 }
 
 // The entry i, where it has the number n; or that n's would be put in there.
-fn spot(entries: &[Entry], i: usize, n: u32) -> Result<usize, usize>
-    ensures { result ≡ spot entries.now i n }
+fn spot(numbers: &[u32], i: usize, n: u32) -> Result<usize, usize>
+    ensures { result ≡ spot (held numbers.now) i n }
 {
-    if i < entries.len() && entries[i].number == n {
+    if i < count_in(numbers) && entry_at(numbers, i).number == n {
         return Ok(i);
     }
     Err(i)
 }
 
 // n's entry, or where it would be put in: by halving, where the entries rise; and one by one.
-pub(crate) fn search(entries: &[Entry], n: u32) -> Result<usize, usize>
-    ensures { result ≡ spot entries.now (searched entries.now n) n }
+pub(crate) fn search(numbers: &[u32], n: u32) -> Result<usize, usize>
+    ensures { result ≡ spot (held numbers.now) (searched (held numbers.now) n) n }
 {
-    spot(entries, first_from(entries, n), n)
+    spot(numbers, first_from(numbers, n), n)
 }
 
-pub(crate) fn scan(entries: &[Entry], n: u32) -> Result<usize, usize>
-    ensures { result ≡ spot entries.now (before n entries.now) n }
+pub(crate) fn scan(numbers: &[u32], n: u32) -> Result<usize, usize>
+    ensures { result ≡ spot (held numbers.now) (before n (held numbers.now)) n }
 {
-    spot(entries, below(entries, n), n)
+    spot(numbers, below(numbers, n), n)
 }
-
-// What a space of entries holds before any is written there.
-pub(crate) const BLANK: Entry = Entry {
-    number: 0,
-    place: Place { line: 0, start: 0 },
-};
 
 // Entries that change: those of an index, and room for the two that a replacement may bring in before it is refused.
+// They lie there as in an index, three numbers each, and are moved and handed over as numbers.
 // Each call writes its literal out: handed over by a function, the space would lie on the stack twice.
 #[derive(Drop)]
 pub(crate) struct Entries {
-    pub(crate) space: [Entry; 2002],
+    pub(crate) space: [u32; 6006],
     pub(crate) count: usize,
 }
 
 impl Model for Entries {
     ghost Value = { List Entry };
 
-    ghost view = { λ s. take s.count s.space };
+    ghost view = { λ s. kept s.space s.count };
 
     ghost invariant = { λ s. s.count ≤ 2002 };
 }
 
 impl Entries {
-    // These entries, in the place of what there is.
-    pub(crate) fn take_in(&mut self, entries: &[Entry])
-        requires { length entries.now ≤ 2002 }
-        ensures { self.new ≡ entries.now }
+    // The entries of these numbers, in the place of what there is.
+    #[tactic(auto, using(crate::proofs::Numbers::held_long))]
+    pub(crate) fn take_in(&mut self, numbers: &[u32])
+        requires { length numbers.now ≤ 6006 }
+        ensures { self.new ≡ held numbers.now }
     {
-        self.space[..entries.len()].copy_from_slice(entries);
-        self.count = entries.len();
+        self.space[..numbers.len()].copy_from_slice(numbers);
+        self.count = count_in(numbers);
     }
 
-    pub(crate) fn held(&self) -> &[Entry]
-        ensures { result.now ≡ self.now }
+    #[tactic(auto, using(crate::proofs::Numbers::kept_long))]
+    pub(crate) fn len(&self) -> usize
+        ensures { result ≡ length self.now }
     {
-        &self.space[..self.count]
+        self.count
     }
 
+    #[tactic(auto, using(crate::proofs::Numbers::kept_long))]
+    pub(crate) fn held(&self) -> &[u32]
+        ensures entries { held result.now ≡ self.now }
+        ensures numbers { result.now ≡ flat self.now }
+    {
+        &self.space[..3 * self.count]
+    }
+
+    #[tactic(auto, using(crate::proofs::Numbers::kept_long))]
     pub(crate) fn insert(&mut self, i: usize, entry: Entry)
         requires { (i ≤ length self.old) × (length self.old < 2002) }
         ensures { self.new ≡ insert self.old i entry }
     {
-        self.space.copy_within(i..self.count, i + 1);
-        self.space[i] = entry;
+        self.space.copy_within(3 * i..3 * self.count, 3 * i + 3);
         self.count += 1;
+        self.write(i, entry);
     }
 
+    #[tactic(auto, using(crate::proofs::Numbers::kept_long))]
     fn remove(&mut self, i: usize)
         requires { i < length self.old }
         ensures { self.new ≡ remove self.old i }
     {
-        self.space.copy_within(i + 1..self.count, i);
+        self.space.copy_within(3 * i + 3..3 * self.count, 3 * i);
         self.count -= 1;
     }
 
+    #[tactic(auto, using(crate::proofs::Numbers::kept_long))]
     fn write(&mut self, i: usize, entry: Entry)
         requires { i < length self.old }
         ensures { self.new ≡ slice_set self.old i entry }
     {
         let space = &mut self.space;
-        space[i] = entry;
+        space[3 * i] = entry.number;
+        space[3 * i + 1] = entry.place.line;
+        space[3 * i + 2] = entry.place.start;
     }
 
     // The place of n put right.
@@ -138,15 +172,16 @@ impl Entries {
     }
 
     // Puts the entries into the front of an index, and tells how many they are, unless they are more than it may have.
-    pub(crate) fn hand_over(&self, index: &mut [Entry; 2000]) -> Result<usize, Refusal>
+    #[tactic(auto, using(crate::proofs::Numbers::flat_long))]
+    pub(crate) fn hand_over(&self, index: &mut [u32; 6000]) -> Result<usize, Refusal>
         ensures answer { result ≡ answer_of self.now }
         ensures index { index.new ≡ handed self.now index.old }
     {
-        let held = self.held();
-        if 2000 < held.len() {
+        let count = self.len();
+        if 2000 < count {
             return Err(Refusal::TooManyNumbers);
         }
-        index[..held.len()].copy_from_slice(held);
-        Ok(held.len())
+        index[..3 * count].copy_from_slice(self.held());
+        Ok(count)
     }
 }

@@ -2,12 +2,12 @@
 // include/rs274_index.h declares it for C.
 #![tactic(auto)]
 
-ghost use Rattle.std.specs.Prelude.{◌≡◌, min, take};
+ghost use Rattle.std.specs.Prelude.{◌≡◌, min};
 ghost use Rattle.index.specs.Index.{refusal_number};
-ghost use Rattle.index.specs.Held.{sought};
+ghost use Rattle.index.specs.Held.{kept, sought};
 ghost use Rattle.lookup.specs.Plain.{answered, placed, Built, Replaced};
 
-use index::{Entry, Place, Refusal};
+use index::{Place, Refusal};
 
 // 0 and how many entries the index has now; or the number of a refusal, and 0.
 #[repr(C)]
@@ -66,7 +66,7 @@ impl From<Option<Place>> for Rs274Place {
 
 // Builds the index of a text.
 #[unsafe(no_mangle)]
-pub extern "C" fn rs274_index_build(text: &[u8], entries: &mut [Entry; 2000]) -> Rs274Indexed
+pub extern "C" fn rs274_index_build(text: &[u8], entries: &mut [u32; 6000]) -> Rs274Indexed
     ensures { Built text.now entries.old result entries.new }
 {
     Rs274Indexed::from(index::build(text, entries))
@@ -74,8 +74,8 @@ pub extern "C" fn rs274_index_build(text: &[u8], entries: &mut [Entry; 2000]) ->
 
 // The place of a number, in an index of so many entries.
 #[unsafe(no_mangle)]
-pub extern "C" fn rs274_index_find(entries: &[Entry; 2000], count: usize, n: u32) -> Rs274Place
-    ensures { result ≡ placed (sought (take (min count 2000) entries.now) n) }
+pub extern "C" fn rs274_index_find(entries: &[u32; 6000], count: usize, n: u32) -> Rs274Place
+    ensures { result ≡ placed (sought (kept entries.now (min count 2000)) n) }
 {
     Rs274Place::from(index::find(entries, count, n))
 }
@@ -84,7 +84,7 @@ pub extern "C" fn rs274_index_find(entries: &[Entry; 2000], count: usize, n: u32
 #[unsafe(no_mangle)]
 pub extern "C" fn rs274_index_replace(
     text: &mut [u8],
-    entries: &mut [Entry; 2000],
+    entries: &mut [u32; 6000],
     count: usize,
     k: u32,
     line: &[u8],

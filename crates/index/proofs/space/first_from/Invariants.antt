@@ -3,11 +3,11 @@
 use mathlib.Core.Path.{◌≡◌}
 use Prim.Native.Nat.{◌-◌, ◌≤◌}
 use lib.ListN.{length}
-use Rattle.index.specs.Held.{halved, searched}
+use Rattle.index.specs.Held.{held, halved, searched}
 use Rattle.index.proofs.space.first_from.Given as goal
 
 abbrev pub invariant-loop-low : goal.invariant-loop-low
-invariant-loop-low l = (l.low ≤ l.high) × (l.high ≤ length l.entries) × (halved (l.high - l.low) l.entries l.n l.low l.high ≡ searched l.entries l.n)
+invariant-loop-low l = (l.low ≤ l.high) × (l.high ≤ length (held l.numbers)) × (halved (l.high - l.low) (held l.numbers) l.n l.low l.high ≡ searched (held l.numbers) l.n)
 
 abbrev pub decreases-loop-low : goal.decreases-loop-low
 decreases-loop-low l = l.high - l.low
