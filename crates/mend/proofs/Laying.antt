@@ -2,12 +2,13 @@
 -- Assumes nothing.
 use mathlib.Core.Path.{◌≡◌, refl, sym, ap, ◌∙◌}
 use mathlib.Core.Bool.{true, false}
-use mathlib.Core.List.{List, ◌++◌, append-nil}
-use Prim.Native.Nat.{ℕ, ◌+◌, ◌-◌, ◌≤◌}
+use mathlib.Core.List.{List, [], ◌∷◌, ◌++◌, append_assoc, append-nil}
+use Prim.Native.Nat.{ℕ, ◌+◌, ◌-◌, ◌≤◌, ◌<◌}
 use native.Mathlib.Omega.{arith}
 use borrow.Author.Tests.{le-leb}
-use lib.ListN.{length, take, drop, drop_of_length-le, length-drop, take-append-drop}
+use lib.ListN.{length, get_or, set, take, drop, drop_of_length-le, length-drop, take-append-drop}
 use lib.Seq.{take_all, drop-drop}
+use Rattle.std.proofs.lemmas.List.{length-take-le, set_at, set-append_right, drop_more, take_more}
 use Rattle.std.specs.Prelude.{Some, None, Result, Ok, Err}
 use Rattle.grammar.specs.Grammar.{Line}
 use Rattle.grammar.specs.Derivation.{Form}
@@ -49,6 +50,24 @@ long_told s out now answer r h m e tree told =
 -- ---- bytes laid from a place on
 behind : (out : List ℕ) (from k : ℕ) → drop k (drop from out) ≡ drop (from + k) out
 behind out from k = drop-drop k from out
+
+-- one item more
+pub laid_more : {X : Type 0} (out s : List X) (from i : ℕ) (x : X) → i < length s → from + length s ≤ length out → x ≡ get_or s i x
+    → set (laid_at out from (take i s)) (from + i) x ≡ laid_at out from (take (i + 1) s)
+laid_more {X} out s from i x h k e =
+    let p = take from out in
+    let q = take i s in
+    let y = get_or out (from + i) x in
+    let r = drop (from + i + 1) out in
+    let l : length q ≡ i = length-take-le i s (omega arith) in
+    let m : length (take (i + 1) s) ≡ i + 1 = length-take-le (i + 1) s (omega arith) in
+    let n : from + length (take (i + 1) s) ≡ from + i + 1 = omega arith in
+    let j : length q ≡ from + i - from = omega arith in
+    ap (λ (z : List X). set (p ++ (q ++ z)) (from + i) x) (ap (λ (a : ℕ). drop (from + a) out) l ∙ drop_more out (from + i) x (omega arith))
+    ∙ set-append_right p (q ++ y ∷ r) from (from + i) x (length-take-le from out (omega arith)) (omega arith)
+    ∙ ap (λ (z : List X). p ++ z) (set_at q y r x (from + i - from) j ∙ sym (append_assoc q (x ∷ []) r))
+    ∙ ap (λ (z : List X). p ++ (z ++ r)) (ap (λ (b : X). q ++ b ∷ []) e ∙ sym (take_more s i x h))
+    ∙ ap (λ (a : ℕ). p ++ (take (i + 1) s ++ drop a out)) (sym n)
 
 -- ---- a line
 module _ (s out : List ℕ) (from : ℕ) (room : Room s from (length out)) where

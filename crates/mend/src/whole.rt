@@ -73,14 +73,16 @@ fn fits(text: &[u8], room: usize) -> bool
     true
 }
 
-// Bytes or numbers laid into a space from a place on, and the place behind them.
+// Bytes or numbers laid into a space from a place on, and the place behind them. One by one: to copy from one lent slice to
+// another `copy_from_slice` calls C's `memmove`, which nothing else in the library for C needs.
 fn lay<T: Copy>(items: &[T], out: &mut [T], from: usize) -> usize
     requires { from + length items.now ≤ length out.old }
     ensures { (result ≡ from + length items.now) × (out.new ≡ laid_at out.old from items.now) }
 {
-    let to = from + items.len();
-    out[from..to].copy_from_slice(items);
-    to
+    for i in 0..items.len() {
+        out[from + i] = items[i];
+    }
+    from + items.len()
 }
 
 // A line's mended bytes, or the line as it is, laid from a place on, and what is listed of it.
