@@ -2,8 +2,8 @@
 // output, and the list, in words, to standard error.
 #![tactic(auto)]
 
-ghost use Rattle.std.specs.Prelude.{◌≡◌, ◌≤◌, length};
-ghost use Rattle.rs274_mend.specs.Held.{HeldOf, HeldOn};
+ghost use Rattle.std.specs.Prelude.{◌≡◌, ◌≤◌, length, take};
+ghost use Rattle.rs274_mend.specs.Held.{Held, HeldOn};
 
 use std::fmt;
 use std::io::Read;
@@ -97,23 +97,21 @@ fn mend_lines(
     Some(before.saturating_add(tally.lines as u64))
 }
 
-// Of the bytes up to a place, the lines that have ended are mended; the rest comes to the front, to go with what is read next.
+// Of the bytes up to a place, the lines that have ended are mended; the rest comes to the front, also where the program stops, to
+// go with what is read next. How many bytes that is, and what `mend_lines` answers.
 fn mend_ended(
     rt: &(impl Print + Eprint),
     end: usize,
     lines: u64,
     spaces: &mut Spaces,
-) -> Option<Kept>
+) -> (usize, Option<u64>)
     requires { end ≤ length spaces.old.bytes }
-    ensures { HeldOf end spaces.old.bytes result spaces.new.bytes }
+    ensures { Held (take end spaces.old.bytes) (take result.0 spaces.new.bytes) }
 {
     let ended = mend::ended_lines(&spaces.bytes[..end]);
-    let lines = mend_lines(rt, ended, lines, spaces)?;
+    let lines = mend_lines(rt, ended, lines, spaces);
     spaces.bytes.copy_within(ended..end, 0);
-    Some(Kept {
-        held: end - ended,
-        lines,
-    })
+    (end - ended, lines)
 }
 
 // Reads a piece behind what is held, and mends the lines that have ended by then. At the end of the input what is held
@@ -136,7 +134,13 @@ fn pass<R: Read>(
             let _ = mend_lines(rt, held, kept.lines, spaces);
             None
         }
-        Ok(many) => mend_ended(rt, held + many, kept.lines, spaces),
+        Ok(many) => {
+            let (held, lines) = mend_ended(rt, held + many, kept.lines, spaces);
+            Some(Kept {
+                held,
+                lines: lines?,
+            })
+        }
         Err(why) => {
             say_failed(rt, Failure::CannotRead(why));
             None

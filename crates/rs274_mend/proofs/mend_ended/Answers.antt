@@ -3,8 +3,8 @@ use Rattle.std.specs.List.{copy_within}
 use Rattle.rs274_mend.proofs.Moving.{moved, within, held_is}
 use Rattle.rs274_mend.proofs.mend_ended.Goals as goal
 
-pub mend_lines-requires : goal.mend_lines-requires
-mend_lines-requires g c =
+pub mend_lines-lines-requires : goal.mend_lines-lines-requires
+mend_lines-lines-requires g c =
     let e = c.ended_lines-ended in
     omega (arith, within c.args.spaces.now.bytes c.args.end e.result c.requires e.ensures)
 
@@ -23,5 +23,5 @@ returns g c =
     let e = c.ended_lines-ended in
     let bytes = c.args.spaces.now.bytes in
     let up_to = within bytes c.args.end e.result c.requires e.ensures in
-    let after = c.copy_within.ensures.after ∙ ap (λ (s : List ℕ). copy_within s e.result c.args.end 0) c.mend_lines.ensures in
+    let after = c.copy_within.ensures.after ∙ ap (λ (s : List ℕ). copy_within s e.result c.args.end 0) c.mend_lines-lines.ensures in
     held_is bytes c.copy_within.new.self c.args.end e.result (c.args.end - e.result) c.requires e.ensures (moved bytes c.copy_within.new.self e.result c.args.end up_to c.requires after)
