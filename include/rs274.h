@@ -172,8 +172,8 @@ enum {
 
 /* Bytes of stack to keep free for a call. Measured, on a painted stack (tests/headers/stack.c): 4,224 for a plain line,
    and 19,544 at most, for the deepest of 256 bytes, right or wrong (docs/STACK.md).
-   The libraries call memcpy, memmove and memset. A program that is linked statically, or with -z now, has them from its
-   start. In any other the system may look each up at its first call, on the caller's stack: that is not in the figures
+   The libraries call memcpy and memset. A program that is linked statically, or with -z now, has them from its start.
+   In any other the system may look each up at its first call, on the caller's stack: that is not in the figures
    here or in the other headers, and took some 3,300 bytes where it was measured. Keep them free besides, or link so. */
 enum {
     RS274_STACK = 24576
