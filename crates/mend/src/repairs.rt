@@ -1,5 +1,5 @@
 // The three repairs of a line, found by their places and put byte by byte.
-ghost use Rattle.std.specs.Prelude.{◌≡◌, not, ◌+◌, ◌≤◌, ◌<◌, length, drop};
+ghost use Rattle.std.specs.Prelude.{◌≡◌, not, List, ◌∷◌, ℕ, ◌+◌, ◌≤◌, ◌<◌, length, drop};
 ghost use Rattle.std.specs.List.{position, list_all};
 ghost use Rattle.grammar.specs.Derivation.{blank};
 ghost use Rattle.mend.specs.Repairs.{square, depth, closed, flattened, lone_percent};
@@ -45,16 +45,24 @@ fn closed(line: &[u8], from: usize, d: usize) -> bool
     e == 0
 }
 
-// The byte that comes out for b, the byte before a place: d comments are open before it and e after it.
-fn turned(line: &[u8], next: usize, d: usize, e: usize, b: u8) -> u8
+// Whether the outermost of e open comments is closed from a place on, where d were open before the byte in front of it. The answer is
+// the same all through an outermost comment, so the line is read on only where one opens.
+fn ends_behind(line: &[u8], next: usize, d: usize, e: usize, ends: bool) -> bool
     requires { e ≤ next }
-    ensures { result ≡ turned_by d e (drop next line.now) b }
+    ensures { (b : ℕ) → e ≡ depth d b → ends ≡ closed d (b ∷ drop next line.now) → result ≡ closed e (drop next line.now) }
 {
-    if d > 0 && e > 0 && closed(line, next, e) {
-        square(b)
+    if d == 0 && e > 0 {
+        closed(line, next, e)
     } else {
-        b
+        ends
     }
+}
+
+// The byte that comes out for b: d comments are open before it and e after it, and behind it the outermost ends or does not.
+fn turned(d: usize, e: usize, ends: bool, b: u8) -> u8
+    ensures { (s : List ℕ) → ends ≡ closed e s → result ≡ turned_by d e s b }
+{
+    if d > 0 && e > 0 && ends { square(b) } else { b }
 }
 
 // Inner parentheses of closed nested comments turned to square brackets, in place.
@@ -62,10 +70,13 @@ pub(crate) fn flatten(line: &mut [u8])
     ensures { line.new ≡ flattened 0 line.old }
 {
     let mut d = 0;
+    // Whether the outermost open comment is closed further on.
+    let mut ends = true;
     for i in 0..line.len() {
         let b = line[i];
         let e = depth(d, b);
-        line[i] = turned(line, i + 1, d, e, b);
+        ends = ends_behind(line, i + 1, d, e, ends);
+        line[i] = turned(d, e, ends, b);
         d = e;
     }
 }
