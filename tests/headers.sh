@@ -1,7 +1,7 @@
 #!/bin/sh
 # headers.sh: the headers, each alone, in the standards of C and C++ that they serve; then the control's and the panel's and
-# their libraries in one C++ program, which holds their names to what the libraries do; then what the libraries need: of the C library memcpy and memset alone,
-# and of the stack.
+# their libraries in one C++ program, which holds their names to what the libraries do; then what the libraries need: of
+# the C library memcpy and memset alone, and of the stack.
 set -eu
 cd "$(dirname "$0")/.."
 work=target/headers
