@@ -15,14 +15,16 @@ pub use building::build;
 pub use replacing::replace;
 use space::{entry_at, search};
 
-// A line, from 1, and that line's first byte, from 0.
+// A line, from 1, and that line's first byte, from 0. Laid out as C lays it out, so that a control can hand it on to C.
+#[repr(C)]
 #[derive(Clone, Copy, PartialEq, Eq)]
 pub struct Place {
     pub line: u32,
     pub start: u32,
 }
 
-// An N number and the place of the first line that bears it.
+// An N number and the place of the first line that bears it, laid out likewise.
+#[repr(C)]
 #[derive(Clone, Copy, PartialEq, Eq)]
 pub struct Entry {
     pub number: u32,
