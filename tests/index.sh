@@ -1,10 +1,14 @@
 #!/bin/sh
 # index.sh [COUNT [SEED]]: generated texts, 2,000 unless told otherwise, indexed, a line replaced and numbers asked for, by
 # the library that a firmware links and by the second program: every answer must be the same, and every refusal
-# must be among them.
+# must be among them. Before that, how a place and an entry lie in memory.
 set -eu
 cd "$(dirname "$0")/.."
 count=${1:-2000} seed=${2:-10}
+# No contract speaks of how a struct lies in memory: C's layout, and the fields in this order, are what another crate may hand to C.
+laid=$(sed -n '/^#\[repr(C)\]$/,/^}$/p' crates/index/src/lib.rt | grep -v derive | tr -s ' \n' ' ')
+want='#[repr(C)] pub struct Place { pub line: u32, pub start: u32, } #[repr(C)] pub struct Entry { pub number: u32, pub place: Place, } '
+[ "$laid" = "$want" ] || { echo "index: Place and Entry no longer lie as C was told: $laid"; exit 1; }
 work=target/index
 mkdir -p $work
 sh tests/link.sh lookup tests/index/index.c $work/index
